@@ -1,0 +1,13 @@
+pub mod Base
+pub mod Demands
+pub mod Laws
+pub mod Listing
+pub mod Mask
+pub mod Model
+pub mod Run
+pub mod Solo
+pub mod Step
+pub mod System
+pub mod Task
+pub mod Text
+pub mod Verdict

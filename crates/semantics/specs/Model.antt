@@ -1,0 +1,86 @@
+-- Social laws in MA-STRIPS, by themselves: source document 000 for the setting, projections and individual solutions; 003 for the
+-- scheduler, collision and deadlock; 001 for a goal missed at the end. Facts are numbers, states are sets of facts; nothing here
+-- knows of masks. Where the planning compilation of 000 differs from this execution model, this decides.
+use mathlib.Core.Path.{_≡_}
+use mathlib.Core.Bool.{Bool, true, cond, not, _&&_, _||_}
+use mathlib.Core.Logic.{_⊎_}
+use mathlib.Core.List.{List, [], _∷_}
+use Prim.Native.Nat.{ℕ, _<_}
+use lib.Dec.{eqb}
+
+abbrev pub FactSet : Type 0
+FactSet = ℕ → Bool
+
+infix 40 _⊆_
+abbrev pub _⊆_ : FactSet → FactSet → Type 0
+A ⊆ B = (f : ℕ) → A f ≡ true → B f ≡ true
+
+-- ⟨F, {A_i}, I, {G_i}⟩; each action with preconditions, those of them that are waited for, add and delete effects
+pub record Setting : Type 1 where
+  pub agents : ℕ
+  pub ActionOf : ℕ → ℕ → Type 0
+  pub init : FactSet
+  pub goal : ℕ → FactSet
+  pub pre : ℕ → FactSet
+  pub waitfor : ℕ → FactSet
+  pub add : ℕ → FactSet
+  pub del : ℕ → FactSet
+
+module _ (Π : Setting) where
+  -- (s \ del(a)) ∪ add(a)
+  abbrev pub apply : ℕ → FactSet → FactSet
+  apply a s f = s f && not (Π .del a f) || Π .add a f
+
+  -- agent i alone executes the actions from the first state to the last: its projection
+  pub data Executes (i : ℕ) : FactSet → List ℕ → FactSet → Type 0 where
+    none : {s : FactSet} → Executes i s [] s
+    then : {s s′ : FactSet} {a : ℕ} {π : List ℕ} → Π .ActionOf i a → Π .pre a ⊆ s → Executes i (apply a s) π s′ → Executes i s (a ∷ π) s′
+
+  -- an individual solution
+  abbrev pub Solution : ℕ → List ℕ → Type 0
+  Solution i π = (s : FactSet) × Executes i (Π .init) π s × (Π .goal i ⊆ s)
+
+  -- the state of the world and what is left of each agent's plan
+  pub record World : Type 0 where
+    pub state : FactSet
+    pub left : ℕ → List ℕ
+
+  abbrev pub leaving : ℕ → List ℕ → (ℕ → List ℕ) → ℕ → List ℕ
+  leaving i π left j = cond (eqb j i) π (left j)
+
+  -- the scheduler chooses agent i, whose pending action does not wait, and the action is executed
+  pub data Acts (w : World) (i : ℕ) : World → Type 0 where
+    acts : {a : ℕ} {π : List ℕ} → i < Π .agents → w .left i ≡ a ∷ π → Π .waitfor a ⊆ w .state → Π .pre a ⊆ w .state
+        → Acts w i (record { state = apply a (w .state); left = leaving i π (w .left) })
+
+  -- the scheduler chooses agent i, whose pending action does not wait, and a precondition does not hold
+  pub data Collides (w : World) (i : ℕ) : Type 0 where
+    collides : {a : ℕ} {π : List ℕ} → i < Π .agents → w .left i ≡ a ∷ π → Π .waitfor a ⊆ w .state → ¬ (Π .pre a ⊆ w .state) → Collides w i
+
+  -- agent i's pending action waits for a precondition
+  pub data Waiting (w : World) (i : ℕ) : Type 0 where
+    waiting : {a : ℕ} {π : List ℕ} → w .left i ≡ a ∷ π → ¬ (Π .waitfor a ⊆ w .state) → Waiting w i
+
+  -- the agents chosen, one after the other
+  pub data Execution : World → List ℕ → World → Type 0 where
+    none : {w : World} → Execution w [] w
+    then : {w w′ w″ : World} {i : ℕ} {is : List ℕ} → Acts w i w′ → Execution w′ is w″ → Execution w (i ∷ is) w″
+
+  -- all agents have executed their plans
+  abbrev pub Ended : World → Type 0
+  Ended w = (i : ℕ) → i < Π .agents → w .left i ≡ []
+
+  -- every agent is waiting or has ended, and some agent is waiting
+  abbrev pub Deadlock : World → Type 0
+  Deadlock w = ((i : ℕ) → i < Π .agents → Waiting w i ⊎ (w .left i ≡ [])) × (i : ℕ) × (i < Π .agents) × Waiting w i
+
+  abbrev pub Success : World → Type 0
+  Success w = Ended w × ((i : ℕ) → i < Π .agents → Π .goal i ⊆ w .state)
+
+  -- all plans are done, and agent i is the first whose goal does not hold
+  abbrev pub Missed : World → ℕ → Type 0
+  Missed w i = Ended w × (i < Π .agents) × ¬ (Π .goal i ⊆ w .state) × ((j : ℕ) → j < i → Π .goal j ⊆ w .state)
+
+  -- the scheduler can go on
+  abbrev pub GoesOn : World → Type 0
+  GoesOn w = (i : ℕ) × (Collides w i ⊎ ((w′ : World) × Acts w i w′))

@@ -1,0 +1,176 @@
+-- Document 01, "Runs": the plans' check, picks, outcomes, joint replay, and a pick on a run.
+use mathlib.Core.Bool.{Bool, true, false, cond, not, _&&_, _||_}
+use mathlib.Core.List.{List, [], _∷_, map}
+use Prim.Native.Nat.{ℕ, zero, suc, _+_}
+use lib.ListN.{length, getD, drop, set, replicate}
+use lib.Seq.{slice}
+use lib.Dec.{eqb, ltb, leb}
+use Rattle.semantics.specs.Base.{upTo, any, all, _if_, _else_, firstRefusal, Answer, refused, gives, unless}
+use Rattle.semantics.specs.Mask.{below}
+use Rattle.semantics.specs.Task.{check, members, facts}
+use Rattle.semantics.specs.System.{System, Waits, system, waits}
+use Rattle.semantics.specs.Step.{Decision, decide}
+use Rattle.semantics.specs.Solo.{Solo, solves, breaks, short, soloFrom, entry}
+
+-- a run, beside its plans: the shared copy, each member's place in its plan, and whether it has collided
+pub record Run (State : Type 0) : Type 0 where
+  pub shared : State
+  pub places : List ℕ
+  pub collided : Bool
+
+-- the most members a task has: a run has so many places, and those past the task's members play no part
+abbrev pub mostMembers : ℕ
+mostMembers = 8
+
+-- how a run can fail; missed with the lowest member whose goal is missing
+pub data Fault : Type 0 where
+  collision : Fault
+  deadlock : Fault
+  missed : ℕ → Fault
+
+pub data Outcome : Type 0 where
+  success : Outcome
+  failure : Fault → Outcome
+  still-open : Outcome
+
+abbrev pub isSuccess : Outcome → Bool
+isSuccess success = true
+isSuccess (failure f) = false
+isSuccess still-open = false
+
+abbrev pub isOpen : Outcome → Bool
+isOpen success = false
+isOpen (failure f) = false
+isOpen still-open = true
+
+module _ {State : Type 0} where
+  -- member j's remaining steps
+  unfoldable pub rest : List (List ℕ) → Run State → ℕ → List ℕ
+  rest plans r j = drop (getD (r .places) j 0) (getD plans j [])
+
+  -- what the routine's answer makes of the run; waiting is no possible pick
+  abbrev pub advance : Run State → ℕ → Decision State → Answer (Run State)
+  advance r j (Decision.go g) = gives (record { shared = g; places = set (r .places) j (getD (r .places) j 0 + 1); collided = false })
+  advance r j Decision.wait = refused 13
+  advance r j Decision.collision = gives (record { shared = r .shared; places = r .places; collided = true })
+
+  abbrev pub given : Answer (Run State) → Bool
+  given (refused k) = false
+  given (gives r) = true
+
+  -- an impossible pick is passed over and changes nothing
+  abbrev pub passOver : Run State → Answer (Run State) → Run State
+  passOver r (refused k) = r
+  passOver r (gives s) = s
+
+  -- k picks done, and one more where it goes
+  abbrev pub tally : ℕ → Answer (Run State) → ℕ
+  tally k (refused e) = k
+  tally k (gives r) = cond (r .collided) k (k + 1)
+
+module _ (S : System) where
+  unfoldable pub start : Run (S .State)
+  start = record { shared = S .init; places = replicate mostMembers 0; collided = false }
+
+  -- the lowest of the members whose goal is not within g, or success
+  unfoldable pub missedIn : S .State → List ℕ → Outcome
+  missedIn g [] = success
+  missedIn g (j ∷ js) = cond (S .goal j g) (missedIn g js) (failure (missed j))
+
+-- joint replay's answer
+pub record Replay (State : Type 0) : Type 0 where
+  pub outcome : Outcome
+  pub shared : State
+  -- picks done, a collision pick not counted
+  pub picked : ℕ
+
+module _ (S : System) (waits : Waits S) (plans : List (List ℕ)) where
+  -- a pick of member j with these steps left
+  unfoldable pub pickStep : Run (S .State) → ℕ → List ℕ → Answer (Run (S .State))
+  pickStep r j [] = refused 13
+  pickStep r j (a ∷ p) = advance r j (decide S waits a (r .shared))
+
+  -- a pick: the run after it, which has collided if the pick did; or 8 no member, 13 no possible pick
+  unfoldable pub pick : Run (S .State) → ℕ → Answer (Run (S .State))
+  pick r j = unless ((8 if not (ltb j (S .members))) else (13 if r .collided)) (pickStep r j (rest plans r j))
+
+  -- some member can be picked
+  unfoldable pub pickable : Run (S .State) → Bool
+  pickable r = any (λ j. given (pick r j)) (upTo (S .members))
+
+  -- some member has steps left
+  unfoldable pub stepsLeft : Run (S .State) → Bool
+  stepsLeft r = any (λ j. ltb 0 (length (rest plans r j))) (upTo (S .members))
+
+  -- a run is finished when it has collided or no member can be picked
+  unfoldable pub outcome : Run (S .State) → Outcome
+  outcome r =
+      cond (r .collided)
+      (failure collision)
+      (cond (pickable r) still-open (cond (stepsLeft r) (failure deadlock) (missedIn S (r .shared) (upTo (S .members)))))
+
+  -- a list of picks, each meeting the run as the last one left it
+  unfoldable pub play : Run (S .State) → List ℕ → Run (S .State)
+  play r [] = r
+  play r (j ∷ js) = play (passOver r (pick r j)) js
+
+  -- joint replay from a run on, k picks being done: the first bad pick is refused
+  unfoldable pub replayOn : Answer (Run (S .State)) → ℕ → List ℕ → Answer (Replay (S .State))
+  replayOn (refused e) k [] = refused e
+  replayOn (refused e) k (j ∷ js) = refused e
+  replayOn (gives r) k [] = gives (record { outcome = outcome r; shared = r .shared; picked = k })
+  replayOn (gives r) k (j ∷ js) = replayOn (pick r j) (tally k (pick r j)) js
+
+  unfoldable pub replay : List ℕ → Answer (Replay (S .State))
+  replay picks = replayOn (gives (start S)) 0 picks
+
+-- ---- the plan slice and the ends of the plans in it
+
+-- where member j's plan begins
+abbrev pub beginning : List ℕ → ℕ → ℕ
+beginning ends j = getD (0 ∷ ends) j 0
+
+abbrev pub planOf : List ℕ → List ℕ → ℕ → List ℕ
+planOf plans ends j = slice (beginning ends j) (getD ends j 0) plans
+
+abbrev pub plansOf : ℕ → List ℕ → List ℕ → List (List ℕ)
+plansOf n plans ends = map (planOf plans ends) (upTo n)
+
+-- n ends, none before the one before it, the last at the plan slice's end
+unfoldable pub endsFit : ℕ → List ℕ → List ℕ → Bool
+endsFit n plans ends =
+    eqb (length ends) n
+    && all (λ j. leb (beginning ends j) (getD ends j 0)) (upTo n)
+    && eqb (beginning ends n) (length plans)
+
+abbrev pub isSolves : Solo → Bool
+isSolves solves = true
+isSolves (breaks k) = false
+isSolves short = false
+
+-- member j's plan: 7 or 10 at its first bad entry, 12 it does not solve
+abbrev pub planRefusal : List ℕ → ℕ → List ℕ → ℕ
+planRefusal t j plan =
+    firstRefusal (entry t j) plan else (12 if not (isSolves (soloFrom (system t) j 0 (system t .init) plan)))
+
+-- the plans' check, after the task check
+unfoldable pub plansRefusal : List ℕ → List ℕ → List ℕ → ℕ
+plansRefusal t plans ends =
+    check t
+    else (11 if not (endsFit (members t) plans ends))
+    else firstRefusal (λ j. planRefusal t j (planOf plans ends j)) (upTo (members t))
+
+-- the operation
+unfoldable pub jointReplay : List ℕ → List ℕ → List ℕ → List ℕ → Answer (Replay ℕ)
+jointReplay t plans ends picks =
+    unless (plansRefusal t plans ends) (replay (system t) (waits t) (plansOf (members t) plans ends) picks)
+
+-- ---- a pick on a run, any run being handed in
+
+unfoldable pub pickOn : List ℕ → List ℕ → List ℕ → Run ℕ → ℕ → Answer (Run ℕ)
+pickOn t plans ends r j =
+    unless
+    (plansRefusal t plans ends
+    else (4 if not (below (facts t) (r .shared)))
+    else (11 if any (λ i. ltb (length (planOf plans ends i)) (getD (r .places) i 0)) (upTo (members t))))
+    (pick (system t) (waits t) (plansOf (members t) plans ends) r j)

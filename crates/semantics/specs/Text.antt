@@ -1,0 +1,89 @@
+-- Document 01, "Text and verdict program": what is a text of records, the words it gives, and the text reader.
+use mathlib.Core.Bool.{Bool, true, false, cond, not, _&&_, _||_}
+use mathlib.Core.List.{List, [], _∷_, _++_, map, foldl, flatten}
+use Prim.Native.Nat.{ℕ, zero, suc, _+_, _-_, _*_, _^_}
+use lib.ListN.{length}
+use lib.Dec.{eqb, ltb, leb}
+use Rattle.semantics.specs.Base.{all, _if_, _else_, Answer, refused, gives, padded, zeroed}
+use Rattle.semantics.specs.Task.{rowWidth, check, between}
+
+abbrev pub comma : ℕ
+comma = 44
+
+abbrev pub cr : ℕ
+cr = 13
+
+abbrev pub lf : ℕ
+lf = 10
+
+abbrev pub isDigit : ℕ → Bool
+isDigit b = between 48 b 57
+
+-- the records of a text, what was read of the first standing before: each ends in CR LF, the last may lack it
+unfoldable pub recordsFrom : List ℕ → List ℕ → List (List ℕ)
+recordsFrom [] [] = []
+recordsFrom (c ∷ read) [] = (c ∷ read) ∷ []
+recordsFrom read (b ∷ []) = (read ++ (b ∷ [])) ∷ []
+recordsFrom read (b ∷ c ∷ text) =
+    let ended = read ∷ recordsFrom [] text in
+    let on = recordsFrom (read ++ (b ∷ [])) (c ∷ text) in
+    cond (eqb b cr && eqb c lf) ended on
+
+abbrev pub records : List ℕ → List (List ℕ)
+records text = recordsFrom [] text
+
+-- the fields of a record, between commas, what was read of the first standing before
+unfoldable pub fieldsFrom : List ℕ → List ℕ → List (List ℕ)
+fieldsFrom read [] = read ∷ []
+fieldsFrom read (b ∷ bs) =
+    let ended = read ∷ fieldsFrom [] bs in
+    let on = fieldsFrom (read ++ (b ∷ [])) bs in
+    cond (eqb b comma) ended on
+
+abbrev pub fields : List ℕ → List (List ℕ)
+fields record′ = fieldsFrom [] record′
+
+-- the number that digits write in base ten
+unfoldable pub number : List ℕ → ℕ
+number digits = foldl (λ x b. 10 * x + (b - 48)) 0 digits
+
+-- no leading zero, 0 itself excepted
+abbrev pub noLeadingZero : List ℕ → Bool
+noLeadingZero [] = false
+noLeadingZero (b ∷ []) = true
+noLeadingZero (b ∷ c ∷ bs) = not (eqb b 48)
+
+unfoldable pub isField : List ℕ → Bool
+isField f = all isDigit f && noLeadingZero f && ltb (number f) (2 ^ 64)
+
+unfoldable pub isRecord : List ℕ → Bool
+isRecord r = eqb (length (fields r)) rowWidth && all isField (fields r)
+
+abbrev pub mostRecords : ℕ
+mostRecords = 265
+
+unfoldable pub isText : List ℕ → Bool
+isText text = leb (length (records text)) mostRecords && all isRecord (records text)
+
+unfoldable pub textWords : List ℕ → List ℕ
+textWords text = flatten (map (λ r. map number (fields r)) (records text))
+
+-- the operation: its answer, the number of records, and the word slice after it
+pub record Reading : Type 0 where
+  pub answer : Answer ℕ
+  pub words : List ℕ
+
+-- 14 writes nothing; 15 and the task check leave the word slice all zeros
+abbrev pub readUnless : ℕ → ℕ → List ℕ → Reading → Reading
+readUnless (suc r) s words reading = record { answer = refused (suc r); words = words }
+readUnless zero (suc s) words reading = record { answer = refused (suc s); words = zeroed words }
+readUnless zero zero words reading = reading
+
+unfoldable pub readText : List ℕ → List ℕ → Reading
+readText text words =
+    let reading : Reading = record { answer = gives (length (records text)); words = padded (length words) (textWords text) } in
+    readUnless
+    (14 if ltb (length words) (rowWidth * mostRecords))
+    ((15 if not (isText text)) else check (textWords text))
+    words
+    reading
