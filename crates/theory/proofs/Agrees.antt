@@ -1,0 +1,7 @@
+-- The operations agree with the execution model of social laws in MA-STRIPS.
+pub mod Joint
+pub mod Outcome
+pub mod Pick
+pub mod Solo
+pub mod Step
+pub mod Worlds

@@ -1,0 +1,255 @@
+-- Joint replay agrees with the model: the picks lead to a world, with its outcome; or all but the last, which collides.
+use mathlib.Core.Path.{_≡_, refl, sym, ap, subst, _∙_, fun-ext}
+use mathlib.Core.Bool.{Bool, true, false, not, cond, false≢true}
+use mathlib.Core.Logic.{_⊎_, inl, inr, ⊎-elim}
+use mathlib.Core.List.{List, [], _∷_, _++_}
+use Prim.Native.Nat.{ℕ, zero, suc, _+_, _≤_}
+use native.Mathlib.Omega.{arith}
+use lib.Dec.{ltb}
+use lib.ListN.{length, getD, drop, replicate}
+use Rattle.semantics.specs.Base.{Answer, refused, gives, unless, upTo, _if_, firstRefusal}
+use Rattle.semantics.specs.Task as Task
+use Rattle.semantics.specs.System.{system, waits}
+use Rattle.semantics.specs.Solo.{Solo, solves, soloFrom, entry}
+use Rattle.semantics.specs.Run.{Run, mostMembers, Fault, Outcome, failure, Replay, rest, tally, pick, start, outcome, replayOn, replay, planOf, plansOf, endsFit, isSolves, planRefusal, plansRefusal, jointReplay}
+use Rattle.semantics.specs.Model.{World, Acts, Collides, Execution, none, then, Solution}
+use Rattle.semantics.specs.Demands.{factsOf, setting, worldOf, OutcomeOf, Ends, JointReplayAgrees}
+use Rattle.theory.proofs.Lists.{apart}
+use Rattle.theory.proofs.Refusals.{else-both, if-not-true, upTo-refusal}
+use Rattle.theory.proofs.Accepted.{accepted}
+use Rattle.theory.proofs.Agrees.Step.{same-facts}
+use Rattle.theory.proofs.Agrees.Solo.{entries-own, Replayed, soloFrom-replayed}
+use Rattle.theory.proofs.Agrees.Worlds.{moves-agent, moves-stays, acts-collides, acts-unique}
+use Rattle.theory.proofs.Agrees.Pick.{Going, worldAt, Picked, picked}
+use Rattle.theory.proofs.Agrees.Outcome.{outcome-says, outcome-unique}
+
+-- ---- picks from any world, one after the other
+
+-- from the world w the picks end with this outcome and the facts of g, m of them being done
+pub data EndsFrom (t : List ℕ) : World (setting t) → List ℕ → Outcome → ℕ → ℕ → Type 0 where
+  stop : {w : World (setting t)} {o : Outcome} {g : ℕ} → OutcomeOf t w o → w .state ≡ factsOf g → EndsFrom t w [] o g 0
+  crash : {w : World (setting t)} {i g : ℕ} → Collides (setting t) w i → w .state ≡ factsOf g → EndsFrom t w (i ∷ []) (failure Fault.collision) g 0
+  on : {w w′ : World (setting t)} {i g m : ℕ} {is : List ℕ} {o : Outcome}
+      → Acts (setting t) w i w′ → EndsFrom t w′ is o g m → EndsFrom t w (i ∷ is) o g (suc m)
+
+execution-ends : {t : List ℕ} {w w′ : World (setting t)} {picks : List ℕ} {o : Outcome} {g : ℕ}
+    → Execution (setting t) w picks w′ → OutcomeOf t w′ o → w′ .state ≡ factsOf g → EndsFrom t w picks o g (length picks)
+execution-ends none s e = stop s e
+execution-ends (then a x) s e = on a (execution-ends x s e)
+
+execution-crashes : {t : List ℕ} {w w′ : World (setting t)} {picks : List ℕ} {i g : ℕ}
+    → Execution (setting t) w picks w′ → Collides (setting t) w′ i → w′ .state ≡ factsOf g
+    → EndsFrom t w (picks ++ (i ∷ [])) (failure Fault.collision) g (length picks)
+execution-crashes none c e = crash c e
+execution-crashes (then a x) c e = on a (execution-crashes x c e)
+
+ends-from : (t : List ℕ) (plans : List (List ℕ)) {picks : List ℕ} {o : Outcome} {g k : ℕ}
+    → Ends t plans picks o g k → EndsFrom t (worldOf t plans) picks o g k
+ends-from t plans (Ends.ends x s e) = execution-ends x s e
+ends-from t plans (Ends.collided x c e) = execution-crashes x c e
+
+-- the two ways in which picks end
+abbrev Stopped : (t : List ℕ) → World (setting t) → List ℕ → Outcome → ℕ → ℕ → Type 0
+Stopped t w picks o g m = (w′ : World (setting t)) × Execution (setting t) w picks w′ × OutcomeOf t w′ o × (w′ .state ≡ factsOf g) × (m ≡ length picks)
+
+abbrev Crashed : (t : List ℕ) → World (setting t) → List ℕ → Outcome → ℕ → ℕ → Type 0
+Crashed t w picks o g m =
+    (is : List ℕ)
+    × (i : ℕ)
+    × (w′ : World (setting t))
+    × Execution (setting t) w is w′
+    × Collides (setting t) w′ i
+    × (w′ .state ≡ factsOf g)
+    × (picks ≡ is ++ (i ∷ []))
+    × (o ≡ failure Fault.collision)
+    × (m ≡ length is)
+
+from-cases : {t : List ℕ} {w : World (setting t)} {picks : List ℕ} {o : Outcome} {g m : ℕ}
+    → EndsFrom t w picks o g m → Stopped t w picks o g m ⊎ Crashed t w picks o g m
+from-cases (stop {w} s e) = inl (w, none, s, e, refl)
+from-cases (crash {w} {i} c e) = inr ([], i, w, none, c, e, refl, refl, refl)
+from-cases (on {i} a x) =
+    ⊎-elim
+    (λ (w, y, s, e, q). inl (w, then a y, s, e, ap suc q))
+    (λ (is, j, w, y, c, e, p, o, q). inr (i ∷ is, j, w, then a y, c, e, ap (λ (l : List ℕ). i ∷ l) p, o, ap suc q))
+    (from-cases x)
+
+from-ends : (t : List ℕ) (plans : List (List ℕ)) {picks : List ℕ} {o : Outcome} {g k : ℕ}
+    → EndsFrom t (worldOf t plans) picks o g k → Ends t plans picks o g k
+from-ends t plans x =
+    ⊎-elim
+    (λ (w, y, s, e, q). rw q (Ends.ends y s e))
+    (λ (is, j, w, y, c, e, p, o, q). rw (p, o, q) (Ends.collided y c e))
+    (from-cases x)
+
+-- ---- joint replay from a run
+
+-- after a collision, and after a refusal, nothing more is answered
+collided-outcome : (t : List ℕ) (plans : List (List ℕ)) (r : Run ℕ) → r .collided ≡ true
+    → outcome (system t) (waits t) plans r ≡ failure Fault.collision
+unfolding outcome
+collided-outcome t plans r e = rw e
+
+collided-pick : (t : List ℕ) (plans : List (List ℕ)) (r : Run ℕ) → r .collided ≡ true → (j : ℕ)
+    → (e : ℕ) × (pick (system t) (waits t) plans r j ≡ refused e)
+unfolding pick
+collided-pick t plans r c j = go (ltb j (Task.members t)) refl
+  where
+    go : (b : Bool) → ltb j (Task.members t) ≡ b → (e : ℕ) × (pick (system t) (waits t) plans r j ≡ refused e)
+    go true q = (13, rw (q, c))
+    go false q = (8, rw q)
+
+refused-replay : (t : List ℕ) (plans : List (List ℕ)) (e k : ℕ) (picks : List ℕ)
+    → replayOn (system t) (waits t) plans (refused e) k picks ≡ refused e
+unfolding replayOn
+refused-replay t plans e k [] = refl
+refused-replay t plans e k (j ∷ js) = refl
+
+replay-path : {o o′ : Outcome} {g g′ n n′ : ℕ} → o ≡ o′ → g ≡ g′ → n ≡ n′
+    → _≡_ {A = Answer (Replay ℕ)} (gives (record { outcome = o; shared = g; picked = n })) (gives (record { outcome = o′; shared = g′; picked = n′ }))
+replay-path p q s = λ i. gives (record { outcome = p i; shared = q i; picked = s i })
+
+module _ (t : List ℕ) (few : Task.members t ≤ mostMembers) (plans : List (List ℕ)) where
+  abbrev on-from : Answer (Run ℕ) → ℕ → List ℕ → Answer (Replay ℕ)
+  on-from = replayOn (system t) (waits t) plans
+
+  -- the answer says of the run's world how the picks end
+  abbrev Told : Run ℕ → ℕ → List ℕ → Replay ℕ → Type 0
+  Told r k picks a = (m : ℕ) × (a .picked ≡ k + m) × EndsFrom t (worldAt t plans r) picks (a .outcome) (a .shared) m
+
+  going-tally : (r : Run ℕ) → Going r → (k : ℕ) → tally k (gives r) ≡ k + 1
+  going-tally r g k = rw (g .uncollided)
+
+  collided-on : (r : Run ℕ) → r .collided ≡ true → (k : ℕ) (picks : List ℕ) (a : Replay ℕ) → on-from (gives r) k picks ≡ gives a
+      → (picks ≡ []) × (a .outcome ≡ failure Fault.collision) × (a .shared ≡ r .shared) × (a .picked ≡ k)
+  unfolding replayOn
+  collided-on r c k [] a h =
+      let q : (record { outcome = outcome (system t) (waits t) plans r; shared = r .shared; picked = k }) ≡ a = cc in
+      (refl, sym (ap (λ (x : Replay ℕ). x .outcome) q) ∙ collided-outcome t plans r c, sym (ap (λ (x : Replay ℕ). x .shared) q), sym (ap (λ (x : Replay ℕ). x .picked) q))
+  collided-on r c k (j ∷ js) a h =
+      let (e, q) = collided-pick t plans r c j in
+      absurd (apart (cc (refused-replay t plans e (tally k (refused e)) js)))
+
+  -- a pick, and what is told of the picks after it
+  told-pick : (r : Run ℕ) (j k : ℕ) (js : List ℕ) (a : Replay ℕ) (x : Answer (Run ℕ)) → Picked t plans r j x
+      → ((r′ : Run ℕ) → Going r′ → (k′ : ℕ) → on-from (gives r′) k′ js ≡ gives a → Told r′ k′ js a)
+      → on-from x (tally k x) js ≡ gives a → Told r k (j ∷ js) a
+  told-pick r j k js a (gives r′) (Picked.goes g act) ih h =
+      let (m, q, f) = ih r′ g (tally k (gives r′)) h in
+      (suc m, omega (arith, going-tally r′ g k), on act f)
+  told-pick r j k js a (gives r′) (Picked.collides c s k′) ih h =
+      let (e, o, g, n) = collided-on r′ c (tally k (gives r′)) js a h in
+      let n′ : a .picked ≡ k = n ∙ ap (λ (b : Bool). cond b k (k + 1)) c in
+      (0, omega arith, rw (e, o) (crash k′ (ap factsOf (sym (g ∙ s)))))
+  told-pick r j k js a (refused e) p ih h = absurd (apart (cc (refused-replay t plans e (tally k (refused e)) js)))
+
+  replay-told : (picks : List ℕ) (r : Run ℕ) → Going r → (k : ℕ) (a : Replay ℕ) → on-from (gives r) k picks ≡ gives a → Told r k picks a
+  unfolding replayOn
+  replay-told [] r g k a h =
+      let q : (record { outcome = outcome (system t) (waits t) plans r; shared = r .shared; picked = k }) ≡ a = cc in
+      subst (Told r k []) q (0, omega arith, stop (outcome-says t few plans r g) refl)
+  replay-told (j ∷ js) r g k a h =
+      told-pick r j k js a (pick (system t) (waits t) plans r j) (picked t few plans r g j)
+      (λ r′ g′ k′ e. replay-told js r′ g′ k′ a e) h
+
+  -- a pick that collides, or that goes, is answered so
+  replay-crash : (r : Run ℕ) (i k g : ℕ) (x : Answer (Run ℕ)) → Picked t plans r i x → Collides (setting t) (worldAt t plans r) i → g ≡ r .shared
+      → on-from x (tally k x) [] ≡ gives (record { outcome = failure Fault.collision; shared = g; picked = k + 0 })
+  unfolding replayOn
+  replay-crash r i k g (gives r′) (Picked.goes g′ act) c e = absurd (acts-collides (setting t) (worldAt t plans r) i act c)
+  replay-crash r i k g (gives r′) (Picked.collides c s k′) col e =
+      replay-path (collided-outcome t plans r′ c) (s ∙ sym e) (ap (λ (b : Bool). cond b k (k + 1)) c ∙ omega arith)
+  replay-crash r i k g (refused n) (Picked.impossible h) c e =
+      absurd (moves-stays (setting t) (worldAt t plans r) i (inl c) (h (moves-agent (setting t) (worldAt t plans r) i (inl c))))
+
+  replay-act : (r : Run ℕ) (i k g m : ℕ) (is : List ℕ) (o : Outcome) (w : World (setting t)) (x : Answer (Run ℕ)) → Picked t plans r i x
+      → Acts (setting t) (worldAt t plans r) i w
+      → ((r′ : Run ℕ) → Going r′ → w ≡ worldAt t plans r′ → (k′ : ℕ) → on-from (gives r′) k′ is ≡ gives (record { outcome = o; shared = g; picked = k′ + m }))
+      → on-from x (tally k x) is ≡ gives (record { outcome = o; shared = g; picked = k + suc m })
+  replay-act r i k g m is o w (gives r′) (Picked.goes g′ act) a ih =
+      ih r′ g′ (acts-unique (setting t) (worldAt t plans r) i a act) (tally k (gives r′))
+      ∙ replay-path refl refl (omega (arith, going-tally r′ g′ k))
+  replay-act r i k g m is o w (gives r′) (Picked.collides c s k′) a ih = absurd (acts-collides (setting t) (worldAt t plans r) i a k′)
+  replay-act r i k g m is o w (refused n) (Picked.impossible h) a ih =
+      absurd (moves-stays (setting t) (worldAt t plans r) i (inr (w, a)) (h (moves-agent (setting t) (worldAt t plans r) i (inr (w, a)))))
+
+  told-replay : {w : World (setting t)} {picks : List ℕ} {o : Outcome} {g m : ℕ} → EndsFrom t w picks o g m
+      → (r : Run ℕ) → Going r → w ≡ worldAt t plans r → (k : ℕ) → on-from (gives r) k picks ≡ gives (record { outcome = o; shared = g; picked = k + m })
+  unfolding replayOn
+  told-replay (stop {w} {o} {g} s e) r gr q k =
+      replay-path (outcome-unique t few plans r gr o (subst (λ (v : World (setting t)). OutcomeOf t v o) q s))
+      (same-facts (r .shared) g (ap (λ (v : World (setting t)). v .state) (sym q) ∙ e))
+      (omega arith)
+  told-replay (crash {w} {i} {g} c e) r gr q k =
+      replay-crash r i k g (pick (system t) (waits t) plans r i) (picked t few plans r gr i)
+      (subst (λ (v : World (setting t)). Collides (setting t) v i) q c)
+      (same-facts g (r .shared) (sym e ∙ ap (λ (v : World (setting t)). v .state) q))
+  told-replay (on {w} {w′} {i} {g} {m} {is} {o} a x) r gr q k =
+      replay-act r i k g m is o w′ (pick (system t) (waits t) plans r i) (picked t few plans r gr i)
+      (subst (λ (v : World (setting t)). Acts (setting t) v i w′) q a)
+      (λ r′ g′ e k′. told-replay x r′ g′ e k′)
+
+-- ---- the operation
+
+zeros-at : (n j : ℕ) → getD {A = ℕ} (replicate n 0) j 0 ≡ 0
+zeros-at zero j = refl
+zeros-at (suc n) zero = refl
+zeros-at (suc n) (suc j) = zeros-at n j
+
+start-rest : (t : List ℕ) (plans : List (List ℕ)) (j : ℕ) → rest plans (start (system t)) j ≡ getD plans j []
+unfolding start rest
+start-rest t plans j = ap (λ (n : ℕ). drop n (getD plans j [])) (zeros-at mostMembers j)
+
+start-world : (t : List ℕ) (plans : List (List ℕ)) → worldOf t plans ≡ worldAt t plans (start (system t))
+unfolding start
+start-world t plans = let left = fun-ext (start-rest t plans) in sym (λ i. record { state = setting t .init; left = left i })
+
+start-going : (t : List ℕ) → Going (start (system t))
+unfolding start
+start-going t = record { wide = refl; uncollided = refl }
+
+is-solves : (r : Solo) → isSolves r ≡ true → r ≡ solves
+is-solves solves h = refl
+is-solves (Solo.breaks k) h = absurd (false≢true h)
+is-solves Solo.short h = absurd (false≢true h)
+
+-- a plan that is not refused is an individual solution
+pub plan-solution : (t : List ℕ) (j : ℕ) (plan : List ℕ) → planRefusal t j plan ≡ 0 → Solution (setting t) j plan
+plan-solution t j plan h =
+    let (e, s) = else-both (firstRefusal (entry t j) plan) _ h in
+    let from = soloFrom (system t) j 0 (Task.initial t) plan in
+    subst (Replayed t j 0 (Task.initial t) plan) (is-solves from (if-not-true 11 (isSolves from) s))
+    (soloFrom-replayed t j 0 (Task.initial t) plan (entries-own t j plan e))
+
+pub joint-replay-agrees : (t plans ends : List ℕ) → plansRefusal t plans ends ≡ 0 → JointReplayAgrees t plans ends
+unfolding plansRefusal jointReplay replay
+joint-replay-agrees t plans ends h =
+    record {
+      solutions = λ j l. plan-solution t j (planOf plans ends j) (upTo-refusal (λ j. planRefusal t j (planOf plans ends j)) (Task.members t) refusals j l);
+      replays = λ picks o g k. (
+        λ e.
+            let (m, q, f) = replay-told t few P picks (start (system t)) (start-going t) 0 (record { outcome = o; shared = g; picked = k }) (sym (answer picks) ∙ e) in
+            let m′ : m ≡ k = omega arith in
+            from-ends t P (rw (start-world t P) (subst (EndsFrom t (worldAt t P (start (system t))) picks o g) m′ f)),
+        λ e.
+            answer picks ∙ told-replay t few P (ends-from t P e) (start (system t)) (start-going t) (start-world t P) 0
+            ∙ replay-path refl refl (omega arith),
+      );
+    }
+  where
+    P : List (List ℕ)
+    P = plansOf (Task.members t) plans ends
+
+    accepts : (Task.check t ≡ 0) × (firstRefusal (λ j. planRefusal t j (planOf plans ends j)) (upTo (Task.members t)) ≡ 0)
+    accepts =
+        let (c, r) = else-both (Task.check t) _ h in
+        (c, else-both (11 if not (endsFit (Task.members t) plans ends)) _ r .1)
+
+    refusals : firstRefusal (λ j. planRefusal t j (planOf plans ends j)) (upTo (Task.members t)) ≡ 0
+    refusals = accepts .1
+
+    few : Task.members t ≤ mostMembers
+    few = accepted t (accepts .0) .few-members
+
+    answer : (picks : List ℕ) → jointReplay t plans ends picks ≡ replayOn (system t) (waits t) P (gives (start (system t))) 0 picks
+    answer picks = ap (λ (r : ℕ). unless r (replayOn (system t) (waits t) P (gives (start (system t))) 0 picks)) h

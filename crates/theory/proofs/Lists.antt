@@ -1,0 +1,231 @@
+-- Laws of Base: tests, and membership in the lists that tests and ranges make.
+use mathlib.Core.Path.{_≡_, refl, sym, ap, _∙_}
+use mathlib.Core.Bool.{Bool, true, false, cond, _&&_, _||_, true≢false, false≢true}
+use mathlib.Core.Logic.{_⊎_, inl, inr, ⊎-elim}
+use mathlib.Core.List.{List, [], _∷_, _++_, map}
+use mathlib.Core.List.{List·Memᴰ, List·Memᴰ·head, List·Memᴰ·tail, List·Memᴰ·not-nil, List·Memᴰ·cases-cons, Memᴰ·cast}
+use Prim.Native.Nat.{ℕ, zero, suc, _+_, _≤_, _<_}
+use native.Mathlib.Nat.{not-suc-le-zero, le-of-suc-le-suc}
+use native.Mathlib.Omega.{arith}
+use lib.ListN.{length, getD}
+use lib.Dec.{ltb}
+use borrow.Author.Tests.{ltb-true, ltb-false, lt-ltb}
+use Rattle.semantics.specs.Base.{range, upTo, any, all, collect, filter}
+
+-- ---- tests
+
+pub bool-cases : (b : Bool) → (b ≡ true) ⊎ (b ≡ false)
+bool-cases true = inl refl
+bool-cases false = inr refl
+
+pub true-not-false : {b : Bool} → b ≡ true → b ≡ false → ⊥
+true-not-false p q = true≢false (sym p ∙ q)
+
+-- the value of a test that cannot be false
+pub not-false-true : (b : Bool) → (b ≡ false → ⊥) → b ≡ true
+not-false-true true h = refl
+not-false-true false h = absurd (h refl)
+
+pub not-true-false : (b : Bool) → (b ≡ true → ⊥) → b ≡ false
+not-true-false true h = absurd (h refl)
+not-true-false false h = refl
+
+-- tests that follow from one another are equal
+pub test-ext : (a b : Bool) → (a ≡ true → b ≡ true) → (b ≡ true → a ≡ true) → a ≡ b
+test-ext true b f g = sym (f refl)
+test-ext false true f g = g refl
+test-ext false false f g = refl
+
+pub and-elim : (a b : Bool) → a && b ≡ true → (a ≡ true) × (b ≡ true)
+and-elim true b h = (refl, h)
+and-elim false b h = absurd (false≢true h)
+
+pub and-intro : {a b : Bool} → a ≡ true → b ≡ true → a && b ≡ true
+and-intro p q = rw (p, q)
+
+pub or-elim : (a b : Bool) → a || b ≡ true → (a ≡ true) ⊎ (b ≡ true)
+or-elim true b h = inl refl
+or-elim false b h = inr h
+
+pub or-left : (a b : Bool) → a ≡ true → a || b ≡ true
+or-left a b h = rw h
+
+pub or-right : (a b : Bool) → b ≡ true → a || b ≡ true
+or-right true b h = refl
+or-right false b h = h
+
+pub or-false-elim : (a b : Bool) → a || b ≡ false → (a ≡ false) × (b ≡ false)
+or-false-elim true b h = absurd (true≢false h)
+or-false-elim false b h = (refl, h)
+
+-- constructors that differ are apart: were they equal, so would be 0 and 1
+pub apart : _≡_ {A = ℕ} 0 1 → ⊥
+apart e = omega arith
+
+pub lt-or-ge : (a b : ℕ) → (a < b) ⊎ (b ≤ a)
+lt-or-ge a b = ⊎-elim (λ t. inl (ltb-true a b t)) (λ f. inr (ltb-false a b f)) (bool-cases (ltb a b))
+
+-- ---- membership
+
+module _ {A : Type 0} where
+  pub mem-getD : (xs : List A) (k : ℕ) (d : A) → k < length xs → List·Memᴰ (getD xs k d) xs
+  mem-getD [] k d l = absurd (not-suc-le-zero l)
+  mem-getD (x ∷ xs) zero d l = List·Memᴰ·head refl
+  mem-getD (x ∷ xs) (suc k) d l = List·Memᴰ·tail (mem-getD xs k d (le-of-suc-le-suc l))
+
+  -- a list with no members, and one with some
+  pub no-members : (xs : List A) → ltb 0 (length xs) ≡ false → xs ≡ []
+  no-members [] e = refl
+  no-members (x ∷ xs) e = absurd (true-not-false (lt-ltb 0 (length (x ∷ xs)) (omega arith)) e)
+
+  pub some-member : (xs : List A) → ltb 0 (length xs) ≡ true → (x : A) × List·Memᴰ x xs
+  some-member [] e = absurd (true-not-false e refl)
+  some-member (x ∷ xs) e = (x, List·Memᴰ·head refl)
+
+  -- where a member stands
+  pub mem-index : {x : A} {xs : List A} (d : A) → List·Memᴰ x xs → (k : ℕ) × (k < length xs) × (getD xs k d ≡ x)
+  mem-index d (List·Memᴰ·head e) = (0, omega arith, sym e)
+  mem-index d (List·Memᴰ·tail m) = let r = mem-index d m in (suc (r .0), omega arith, r .2)
+
+  module _ (p : A → Bool) where
+    pub any-true : (xs : List A) → any p xs ≡ true → (x : A) × List·Memᴰ x xs × (p x ≡ true)
+    unfolding any
+    any-true [] h = absurd (false≢true h)
+    any-true (x ∷ xs) h =
+        ⊎-elim
+        (λ t. (x, List·Memᴰ·head refl, t))
+        (λ t. let r = any-true xs t in (r .0, List·Memᴰ·tail (r .1), r .2))
+        (or-elim (p x) (any p xs) h)
+
+    pub true-any : {x : A} {xs : List A} → List·Memᴰ x xs → p x ≡ true → any p xs ≡ true
+    unfolding any
+    true-any (List·Memᴰ·head {x = y} {xs = ys} e) t = or-left (p y) (any p ys) (ap p (sym e) ∙ t)
+    true-any (List·Memᴰ·tail {x = y} {xs = ys} m) t = or-right (p y) (any p ys) (true-any m t)
+
+    pub any-false : {x : A} {xs : List A} → any p xs ≡ false → List·Memᴰ x xs → p x ≡ false
+    any-false {x} h m = not-true-false (p x) (λ t. true-not-false (true-any m t) h)
+
+    pub false-any : (xs : List A) → ((x : A) → List·Memᴰ x xs → p x ≡ false) → any p xs ≡ false
+    false-any xs h = not-true-false (any p xs) (λ t. let r = any-true xs t in true-not-false (r .2) (h (r .0) (r .1)))
+
+    pub all-true : {x : A} {xs : List A} → all p xs ≡ true → List·Memᴰ x xs → p x ≡ true
+    unfolding all
+    all-true h (List·Memᴰ·head {x = y} {xs = ys} e) = ap p e ∙ and-elim (p y) (all p ys) h .0
+    all-true h (List·Memᴰ·tail {x = y} {xs = ys} m) = all-true (and-elim (p y) (all p ys) h .1) m
+
+    pub true-all : (xs : List A) → ((x : A) → List·Memᴰ x xs → p x ≡ true) → all p xs ≡ true
+    unfolding all
+    true-all [] h = refl
+    true-all (x ∷ xs) h = and-intro (h x (List·Memᴰ·head refl)) (true-all xs (λ y m. h y (List·Memᴰ·tail m)))
+
+    -- a list of which not all pass the test has one that does not
+    pub all-false : (xs : List A) → all p xs ≡ false → (x : A) × List·Memᴰ x xs × (p x ≡ false)
+    unfolding all
+    all-false [] h = absurd (true≢false h)
+    all-false (x ∷ xs) h =
+        ⊎-elim
+        (λ t. let r = all-false xs (rw t at h) in (r .0, List·Memᴰ·tail (r .1), r .2))
+        (λ f. (x, List·Memᴰ·head refl, f))
+        (bool-cases (p x))
+
+    pub false-all : {x : A} {xs : List A} → List·Memᴰ x xs → p x ≡ false → all p xs ≡ false
+    false-all {x} {xs} m f = not-true-false (all p xs) (λ t. true-not-false (all-true t m) f)
+
+    module _ {B : Type 0} (f : A → B) where
+      pub collect-yes : (x : A) (xs : List A) → p x ≡ true → collect p f (x ∷ xs) ≡ f x ∷ collect p f xs
+      unfolding collect
+      collect-yes x xs t = rw t
+
+      pub collect-no : (x : A) (xs : List A) → p x ≡ false → collect p f (x ∷ xs) ≡ collect p f xs
+      unfolding collect
+      collect-no x xs t = rw t
+
+      pub collect-mem : {y : B} (xs : List A) → List·Memᴰ y (collect p f xs) → (x : A) × List·Memᴰ x xs × (p x ≡ true) × (y ≡ f x)
+      unfolding collect
+      collect-mem [] m = absurd (List·Memᴰ·not-nil m)
+      collect-mem {y} (x ∷ xs) m =
+          let down : List·Memᴰ y (collect p f xs) → (z : A) × List·Memᴰ z (x ∷ xs) × (p z ≡ true) × (y ≡ f z) =
+          λ n. (let r = collect-mem xs n in (r .0, List·Memᴰ·tail (r .1), r .2, r .3)) in
+          ⊎-elim
+          (λ t. ⊎-elim (λ e. (x, List·Memᴰ·head refl, t, e)) down (List·Memᴰ·cases-cons (rw (collect-yes x xs t) at m)))
+          (λ t. down (rw (collect-no x xs t) at m))
+          (bool-cases (p x))
+
+      pub mem-collect : {x : A} {xs : List A} → List·Memᴰ x xs → p x ≡ true → List·Memᴰ (f x) (collect p f xs)
+      unfolding collect
+      mem-collect {x} (List·Memᴰ·head {x = z} {xs = zs} e) t =
+          rw (collect-yes z zs (ap p (sym e) ∙ t)) (List·Memᴰ·head (ap f e))
+      mem-collect {x} (List·Memᴰ·tail {x = z} {xs = zs} m) t =
+          let n = mem-collect m t in
+          ⊎-elim
+          (λ y. rw (collect-yes z zs y) (List·Memᴰ·tail n))
+          (λ y. rw (collect-no z zs y) n)
+          (bool-cases (p z))
+
+    pub filter-mem : {x : A} (xs : List A) → List·Memᴰ x (filter p xs) → List·Memᴰ x xs × (p x ≡ true)
+    unfolding filter
+    filter-mem xs m = let r = collect-mem (λ x. x) xs m in (Memᴰ·cast (r .3) (r .1), ap p (r .3) ∙ r .2)
+
+    pub mem-filter : {x : A} {xs : List A} → List·Memᴰ x xs → p x ≡ true → List·Memᴰ x (filter p xs)
+    unfolding filter
+    mem-filter m t = mem-collect (λ x. x) m t
+
+-- ---- ranges
+
+pub range-mem : {i : ℕ} (k c : ℕ) → List·Memᴰ i (range k c) → (k ≤ i) × (i < k + c)
+unfolding range
+range-mem k zero m = absurd (List·Memᴰ·not-nil m)
+range-mem {i} k (suc c) m =
+    ⊎-elim
+    (λ (e : i ≡ k). (omega arith, omega arith))
+    (λ n. let r = range-mem (suc k) c n in (omega arith, omega arith))
+    (List·Memᴰ·cases-cons m)
+
+pub mem-range : (i k c : ℕ) → k ≤ i → i < k + c → List·Memᴰ i (range k c)
+unfolding range
+mem-range i k zero l h = absurd (omega arith)
+mem-range i k (suc c) l h =
+    ⊎-elim (λ (g : k < i). List·Memᴰ·tail (mem-range i (suc k) c g (omega arith))) (λ (g : i ≤ k). List·Memᴰ·head (omega arith)) (lt-or-ge k i)
+
+pub upTo-mem : {i : ℕ} (n : ℕ) → List·Memᴰ i (upTo n) → i < n
+upTo-mem n m = let r = range-mem 0 n m in omega arith
+
+pub mem-upTo : {i n : ℕ} → i < n → List·Memᴰ i (upTo n)
+mem-upTo {i} {n} l = mem-range i 0 n (omega arith) (omega arith)
+
+-- ---- two lists, one after the other
+
+pub filter-append : {A : Type 0} (p : A → Bool) (xs ys : List A) → filter p (xs ++ ys) ≡ filter p xs ++ filter p ys
+unfolding filter collect
+filter-append p [] ys = refl
+filter-append {A} p (x ∷ xs) ys = at (p x) (filter-append p xs ys)
+  where
+    at : (b : Bool) → collect p (λ x. x) (xs ++ ys) ≡ collect p (λ x. x) xs ++ collect p (λ x. x) ys
+        → cond b (x ∷ collect p (λ x. x) (xs ++ ys)) (collect p (λ x. x) (xs ++ ys))
+        ≡ cond b (x ∷ collect p (λ x. x) xs) (collect p (λ x. x) xs) ++ collect p (λ x. x) ys
+    at true e = ap (λ (q : List A). x ∷ q) e
+    at false e = e
+
+pub map-append : {A B : Type 0} (f : A → B) (xs ys : List A) → map f (xs ++ ys) ≡ map f xs ++ map f ys
+map-append f [] ys = refl
+map-append {B = B} f (x ∷ xs) ys = ap (λ (q : List B). f x ∷ q) (map-append f xs ys)
+
+-- ---- the numbers below n, in order
+
+range-length : (k c : ℕ) → length (range k c) ≡ c
+unfolding range
+range-length k zero = refl
+range-length k (suc c) = ap suc (range-length (suc k) c)
+
+pub upTo-length : (n : ℕ) → length (upTo n) ≡ n
+upTo-length n = range-length 0 n
+
+-- a list made of the numbers below n, read at i
+getD-range : {A : Type 0} (f : ℕ → A) (k c i : ℕ) (d : A) → i < c → getD (map f (range k c)) i d ≡ f (k + i)
+unfolding range
+getD-range f k zero i d h = absurd (omega arith)
+getD-range f k (suc c) zero d h = let e : k ≡ k + 0 = omega arith in ap f e
+getD-range f k (suc c) (suc i) d h = let e : suc k + i ≡ k + suc i = omega arith in getD-range f (suc k) c i d (omega arith) ∙ ap f e
+
+pub getD-upTo : {A : Type 0} (f : ℕ → A) (n i : ℕ) (d : A) → i < n → getD (map f (upTo n)) i d ≡ f i
+getD-upTo f n i d h = let e : 0 + i ≡ i = omega arith in getD-range f 0 n i d h ∙ ap f e

@@ -1,0 +1,87 @@
+-- What the routine and a pick answer, case by case, and what a pick makes of the run. Assumes nothing.
+use mathlib.Core.Path.{_≡_, refl, sym, ap, subst, _∙_}
+use mathlib.Core.Bool.{Bool, true, false, cond, not}
+use mathlib.Core.List.{List, [], _∷_}
+use Prim.Native.Nat.{ℕ, zero, suc, _+_, _≤_, _<_}
+use native.Mathlib.Omega.{arith}
+use native.Mathlib.Numerals.{add-one}
+use lib.ListN.{length, getD, drop, set, length-set}
+use lib.Seq.{getD-set-same, getD-set-other, drop-drop}
+use lib.Dec.{ltb, eqb}
+use borrow.Author.Tests.{ltb-true, ltb-false, lt-ltb, le-ltb}
+use Rattle.semantics.specs.Base.{_if_, _else_, Answer, refused, gives, unless}
+use Rattle.semantics.specs.System.{System, Waits}
+use Rattle.semantics.specs.Step.{Decision, decide}
+use Rattle.semantics.specs.Run.{Run, rest, advance, pickStep, pick, given}
+
+-- the routine's answers
+pub data Decided (S : System) (W : Waits S) (a : ℕ) (g : S .State) : Decision (S .State) → Type 0 where
+  waits : W a g ≡ true → Decided S W a g Decision.wait
+  goes : W a g ≡ false → S .able a g ≡ true → Decided S W a g (Decision.go (S .result a g))
+  collides : W a g ≡ false → S .able a g ≡ false → Decided S W a g Decision.collision
+
+pub decided : (S : System) (W : Waits S) (a : ℕ) (g : S .State) → Decided S W a g (decide S W a g)
+unfolding decide
+decided S W a g = at (W a g) refl (S .able a g) refl
+  where
+    at : (w : Bool) → W a g ≡ w → (b : Bool) → S .able a g ≡ b
+        → Decided S W a g (cond w Decision.wait (cond b (Decision.go (S .result a g)) Decision.collision))
+    at true e b f = Decided.waits e
+    at false e true f = Decided.goes e f
+    at false e false f = Decided.collides e f
+
+module _ (S : System) (W : Waits S) (plans : List (List ℕ)) where
+  -- a pick's answers
+  pub data Picked (r : Run (S .State)) (j : ℕ) : Answer (Run (S .State)) → Type 0 where
+    nobody : S .members ≤ j → Picked r j (refused 8)
+    closed : j < S .members → r .collided ≡ true → Picked r j (refused 13)
+    over : j < S .members → r .collided ≡ false → rest plans r j ≡ [] → Picked r j (refused 13)
+    waits : {a : ℕ} {p : List ℕ} → j < S .members → r .collided ≡ false → rest plans r j ≡ a ∷ p → W a (r .shared) ≡ true
+        → Picked r j (refused 13)
+    goes : {a : ℕ} {p : List ℕ} → j < S .members → r .collided ≡ false → rest plans r j ≡ a ∷ p → W a (r .shared) ≡ false
+        → S .able a (r .shared) ≡ true → Picked r j (advance r j (Decision.go (S .result a (r .shared))))
+    collides : {a : ℕ} {p : List ℕ} → j < S .members → r .collided ≡ false → rest plans r j ≡ a ∷ p → W a (r .shared) ≡ false
+        → S .able a (r .shared) ≡ false → Picked r j (advance r j Decision.collision)
+
+  pub picked : (r : Run (S .State)) (j : ℕ) → Picked r j (pick S W plans r j)
+  unfolding pick pickStep
+  picked r j = who (ltb j (S .members)) refl
+    where
+      decision : (a : ℕ) (p : List ℕ) → j < S .members → r .collided ≡ false → rest plans r j ≡ a ∷ p
+          → (d : Decision (S .State)) → Decided S W a (r .shared) d → Picked r j (advance r j d)
+      decision a p h c e d (Decided.waits w) = waits h c e w
+      decision a p h c e d (Decided.goes w b) = goes h c e w b
+      decision a p h c e d (Decided.collides w b) = collides h c e w b
+
+      step : (p : List ℕ) → j < S .members → r .collided ≡ false → rest plans r j ≡ p → Picked r j (pickStep S W plans r j p)
+      step [] h c e = over h c e
+      step (a ∷ p) h c e = decision a p h c e (decide S W a (r .shared)) (decided S W a (r .shared))
+
+      still : (b : Bool) → j < S .members → r .collided ≡ b → Picked r j (unless (0 else (13 if b)) (pickStep S W plans r j (rest plans r j)))
+      still true h c = closed h c
+      still false h c = step (rest plans r j) h c refl
+
+      who : (b : Bool) → ltb j (S .members) ≡ b
+          → Picked r j (unless ((8 if not b) else (13 if r .collided)) (pickStep S W plans r j (rest plans r j)))
+      who true e = still (r .collided) (ltb-true j (S .members) e) refl
+      who false e = nobody (ltb-false j (S .members) e)
+
+-- ---- the run after a pick that goes
+
+module _ {State : Type 0} (plans : List (List ℕ)) (r : Run State) where
+  abbrev pub gone : ℕ → State → Run State
+  gone j g = record { shared = g; places = set (r .places) j (getD (r .places) j 0 + 1); collided = false }
+
+  -- the member picked has one step less
+  pub rest-picked : (j : ℕ) (g : State) {a : ℕ} {p : List ℕ} → j < length (r .places) → rest plans r j ≡ a ∷ p → rest plans (gone j g) j ≡ p
+  unfolding rest
+  rest-picked j g {a} {p} h e =
+      ap (λ (k : ℕ). drop k (getD plans j [])) (getD-set-same (r .places) j (getD (r .places) j 0 + 1) 0 h)
+      ∙ sym (drop-drop 1 (getD (r .places) j 0) (getD plans j []))
+      ∙ ap (drop 1) e
+
+  -- the others have what they had
+  pub rest-others : (j : ℕ) (g : State) (i : ℕ) → (i ≡ j → ⊥) → rest plans (gone j g) i ≡ rest plans r i
+  unfolding rest
+  rest-others j g i ne =
+      ap (λ (k : ℕ). drop k (getD plans i [])) (getD-set-other (r .places) j i (getD (r .places) j 0 + 1) 0 ne)

@@ -1,0 +1,188 @@
+-- Demand 2 for solo search: the table holds the states that the agent alone can bring about, each once, and its marks say from which
+-- of them the agent alone can go on to its goal.
+use mathlib.Core.Path.{_≡_, refl, sym, ap, subst, _∙_}
+use mathlib.Core.Bool.{Bool, true, false, false≢true}
+use mathlib.Core.Logic.{_↔_, ⊎-elim, Iff·trans}
+use mathlib.Core.List.{List, [], _∷_, _++_, map}
+use mathlib.Core.List.{List·Memᴰ}
+use Prim.Native.Nat.{ℕ, zero, suc, _-_, _≤_, _<_}
+use native.Mathlib.Nat.{not-suc-le-zero, le-of-suc-le-suc}
+use native.Mathlib.Omega.{arith}
+use lib.ListN.{length, getD, take, replicate, length-map, List·getD-append}
+use lib.Seq.{take-append-seam}
+use lib.Dec.{eqb}
+use borrow.Author.Tests.{lt-ltb, le-ltb}
+use Rattle.semantics.specs.Base.{_if_, Answer, refused, gives, padded}
+use Rattle.semantics.specs.Task as Task
+use Rattle.semantics.specs.Task.{check}
+use Rattle.semantics.specs.System.{Lawful, system, waits, Live}
+use Rattle.semantics.specs.Listing.{mem, Reach, here, step}
+use Rattle.semantics.specs.Solo.{soloNext, copies, liveOf, marksOf, Searched, SoloSearch, searchRefusal, soloSearch}
+use Rattle.semantics.specs.Model.{FactSet, _⊆_, apply, Executes, Solution, none, then}
+use Rattle.semantics.specs.Demands.{factsOf, setting, Reachable, Completable, Distinct, SoloSearchAgrees}
+use Rattle.theory.proofs.Lists.{lt-or-ge, mem-getD}
+use Rattle.theory.proofs.Refusals.{else-both, refused-gives, gives-inj}
+use Rattle.theory.proofs.Masks.{within-sub, sub-within}
+use Rattle.theory.proofs.Accepted.{accepted-lawful}
+use Rattle.theory.proofs.Agrees.Step.{facts-after, same-facts}
+use Rattle.theory.proofs.Agrees.Solo.{leads-iff}
+use Rattle.theory.proofs.Listing.{nodup-index, index-nodup, pigeonhole}
+use Rattle.theory.proofs.Live.{Steps, soloNext-steps, steps-soloNext, copies-nodup, copies-reachable, reachable-copies, live-sound, copies-live}
+
+-- ---- local copies against states of the model
+
+module _ (t : List ℕ) (i : ℕ) where
+  -- one more action at the end
+  executes-snoc : {u v : FactSet} {π : List ℕ} (a : ℕ) → Executes (setting t) i u π v → setting t .ActionOf i a → setting t .pre a ⊆ v
+      → Executes (setting t) i u (π ++ (a ∷ [])) (apply (setting t) a v)
+  executes-snoc a none o p = then o p none
+  executes-snoc a (then o′ p′ e) o p = then o′ p′ (executes-snoc a e o p)
+
+  reach-reachable : {s : ℕ} → Reach (soloNext (system t) i) (system t .init) s → Reachable t i s
+  reach-reachable (here e) = ([], subst (λ (x : ℕ). Executes (setting t) i (setting t .init) [] (factsOf x)) (sym e) none)
+  reach-reachable {s} (step {x = x} r m) =
+      let h = reach-reachable r in
+      let c = soloNext-steps (system t) i x s m in
+      let a = c .action in
+      let e : apply (setting t) a (factsOf x) ≡ factsOf s = sym (facts-after t a x) ∙ ap factsOf (sym (c .led)) in (
+        h .0 ++ (a ∷ []),
+        subst (Executes (setting t) i (setting t .init) (h .0 ++ (a ∷ []))) e
+            (executes-snoc a (h .1) (c .own) (within-sub (Task.pre t a) x (c .able))),
+      )
+
+  -- an execution from a copy that can be reached ends in one
+  executes-reach : {u v : FactSet} {π : List ℕ} → Executes (setting t) i u π v → (x : ℕ) → u ≡ factsOf x → Reach (soloNext (system t) i) (system t .init) x
+      → (y : ℕ) × (v ≡ factsOf y) × Reach (soloNext (system t) i) (system t .init) y
+  executes-reach none x e r = (x, e, r)
+  executes-reach (then {a = a} o p q) x e r =
+      let y = system t .result a x in
+      let c : Steps (system t) i x y =
+      record { action = a; own = o; able = sub-within (Task.pre t a) x (subst (λ (w : FactSet). setting t .pre a ⊆ w) e p); led = refl } in
+      executes-reach q y (ap (apply (setting t) a) e ∙ sym (facts-after t a x)) (step r (steps-soloNext (system t) i x y c))
+
+  pub reachable-iff : (s : ℕ) → Reach (soloNext (system t) i) (system t .init) s ↔ Reachable t i s
+  reachable-iff s = (
+    reach-reachable,
+    λ h.
+        let q = executes-reach (h .1) (system t .init) refl (here refl) in
+        let e = same-facts (q .0) s (sym (q .1)) in
+        subst (Reach (soloNext (system t) i) (system t .init)) e (q .2),
+  )
+
+  pub completable-iff : (s : ℕ) → Live (system t) i s ↔ Completable t i s
+  completable-iff s =
+      (λ l. let h = leads-iff t i s (l .0) .0 (l .1) in (l .0, h .0, h .1, h .2), λ c. (c .0, leads-iff t i s (c .0) .1 (c .1, c .2, c .3)))
+
+-- ---- what the search answers
+
+getD-map : {A B : Type 0} (f : A → B) (xs : List A) (k : ℕ) (d : A) (e : B) → k < length xs → getD (map f xs) k e ≡ f (getD xs k d)
+getD-map f [] k d e l = absurd (not-suc-le-zero l)
+getD-map f (x ∷ xs) zero d e l = refl
+getD-map f (x ∷ xs) (suc k) d e l = getD-map f xs k d e (le-of-suc-le-suc l)
+
+if-one : (b : Bool) → (1 if b ≡ 1) ↔ (b ≡ true)
+if-one true = (λ h. refl, λ h. refl)
+if-one false = (λ h. absurd (omega arith), λ h. absurd (false≢true h))
+
+module _ (t : List ℕ) (i : ℕ) (table marks : List ℕ) (accepts : searchRefusal t i (length table) (length marks) ≡ 0) where
+  abbrev rows : List ℕ
+  rows = copies (system t) i (length table)
+
+  lawful : Lawful (system t) (waits t)
+  lawful = accepted-lawful t (else-both (check t) _ accepts .0)
+
+  search-full : length table < length rows → soloSearch t i table marks .answer ≡ refused 9
+  unfolding soloSearch
+  search-full l = rw (accepts, lt-ltb (length table) (length rows) l)
+
+  abbrev found : SoloSearch
+  found =
+      record {
+        answer = gives (record { count = length rows; live = mem eqb (system t .init) (liveOf (system t) i rows) });
+        table = padded (length table) rows;
+        marks = padded (length marks) (marksOf (system t) i rows);
+      }
+
+  search-found : length rows ≤ length table → soloSearch t i table marks ≡ found
+  unfolding soloSearch
+  search-found b = rw (accepts, le-ltb (length table) (length rows) b)
+
+  -- what is listed is just what can be reached
+  found-reachable : length rows ≤ length table → (s : ℕ) → List·Memᴰ s rows ↔ Reachable t i s
+  found-reachable b s = (
+    λ m. reachable-iff t i s .0 (copies-reachable (system t) (waits t) lawful i (length table) s m),
+    λ r. reachable-copies (system t) (waits t) lawful i (length table) b s (reachable-iff t i s .1 r),
+  )
+
+  found-live : length rows ≤ length table → (s : ℕ) → List·Memᴰ s rows → (mem eqb s (liveOf (system t) i rows) ≡ true) ↔ Completable t i s
+  found-live b s m = (
+    λ h. completable-iff t i s .0 (live-sound (system t) (waits t) lawful i rows s h),
+    λ c. copies-live (system t) (waits t) lawful i (length table) b s m (completable-iff t i s .1 c),
+  )
+
+  found-mark : length rows ≤ length table → (k : ℕ) → k < length rows
+      → (getD (padded (length marks) (marksOf (system t) i rows)) k 0 ≡ 1) ↔ Completable t i (getD (padded (length table) rows) k 0)
+  unfolding marksOf
+  found-mark b k l =
+      let live = liveOf (system t) i rows in
+      let mark : ℕ → ℕ = λ s. 1 if mem eqb s live in
+      let s = getD rows k 0 in
+      let n : k < length (map mark rows) = rw length-map l in
+      rw (
+        List·getD-append (map mark rows) (replicate (length marks - length (map mark rows)) 0) 0 k n,
+        getD-map mark rows k 0 0 l,
+        List·getD-append rows (replicate (length table - length rows) 0) 0 k l,
+      )
+      (Iff·trans (if-one (mem eqb s live)) (found-live b s (mem-getD rows k 0 l)))
+
+  rows-distinct : Distinct rows
+  rows-distinct = nodup-index 0 (copies-nodup (system t) (waits t) lawful i (length table))
+
+  -- what an answer of count and live says of the slices
+  abbrev Listed : SoloSearch → Searched → Type 0
+  Listed r c =
+      Distinct (take (c .count) (r .table))
+      × ((s : ℕ) → List·Memᴰ s (take (c .count) (r .table)) ↔ Reachable t i s)
+      × ((k : ℕ) → k < c .count → (getD (r .marks) k 0 ≡ 1) ↔ Completable t i (getD (r .table) k 0))
+      × ((c .live ≡ true) ↔ ((π : List ℕ) × Solution (setting t) i π))
+
+  found-listed : length rows ≤ length table → Listed found (record { count = length rows; live = mem eqb (system t .init) (liveOf (system t) i rows) })
+  found-listed b =
+      let e = take-append-seam rows (replicate (length table - length rows) 0) in
+      let first = found-live b (system t .init) (reachable-copies (system t) (waits t) lawful i (length table) b (system t .init) (here refl)) in (
+        subst Distinct (sym e) rows-distinct,
+        λ s. rw e (found-reachable b s),
+        found-mark b,
+        (λ h. let c = first .0 h in (c .0, (c .1, c .2, c .3)), λ p. first .1 (p .0, p .1 .0, p .1 .1, p .1 .2)),
+      )
+
+  exceeds : (xs : List ℕ) → Distinct xs → ((x : ℕ) → List·Memᴰ x xs → Reachable t i x) → length table < length xs → length table < length rows
+  exceeds xs distinct reach l =
+      ⊎-elim (λ h. h)
+      (λ b. let p = pigeonhole rows (index-nodup 0 xs distinct) (λ x m. found-reachable b x .1 (reach x m)) in omega arith)
+      (lt-or-ge (length table) (length rows))
+
+  full-exceeds : soloSearch t i table marks .answer ≡ refused 9
+      → (xs : List ℕ) × Distinct xs × ((x : ℕ) → List·Memᴰ x xs → Reachable t i x) × (length table < length xs)
+  full-exceeds e =
+      ⊎-elim
+      (λ l. (rows, rows-distinct, λ x m. reachable-iff t i x .0 (copies-reachable (system t) (waits t) lawful i (length table) x m), l))
+      (λ b. absurd (refused-gives (sym e ∙ ap (λ (r : SoloSearch). r .answer) (search-found b))))
+      (lt-or-ge (length table) (length rows))
+
+  answer-listed : (c : Searched) → soloSearch t i table marks .answer ≡ gives c → Listed (soloSearch t i table marks) c
+  answer-listed c e =
+      ⊎-elim
+      (λ l. absurd (refused-gives (sym (search-full l) ∙ e)))
+      (λ b.
+      let q = gives-inj (sym (ap (λ (r : SoloSearch). r .answer) (search-found b)) ∙ e) in
+      subst (λ (r : SoloSearch). Listed r c) (sym (search-found b)) (subst (Listed found) q (found-listed b)))
+      (lt-or-ge (length table) (length rows))
+
+pub solo-search-agrees : (t : List ℕ) (i : ℕ) (table marks : List ℕ) → searchRefusal t i (length table) (length marks) ≡ 0
+    → SoloSearchAgrees t i table marks
+solo-search-agrees t i table marks accepts =
+    record {
+      full = (full-exceeds t i table marks accepts, λ h. search-full t i table marks accepts (exceeds t i table marks accepts (h .0) (h .1) (h .2) (h .3)));
+      listed = λ count live e. answer-listed t i table marks accepts (record { count = count; live = live }) e;
+    }
