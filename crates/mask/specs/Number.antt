@@ -1,0 +1,14 @@
+-- The numbers that masks, local copies and shared copies stand for.
+use Prim.Native.Nat.{ℕ}
+use Rattle.mask.specs.declared.Mask.{Mask}
+use Rattle.mask.specs.declared.Local.{Local}
+use Rattle.mask.specs.declared.Shared.{Shared}
+
+abbrev pub number : Mask → ℕ
+number m = m .0
+
+abbrev pub localNumber : Local → ℕ
+localNumber s = number (s .0)
+
+abbrev pub sharedNumber : Shared → ℕ
+sharedNumber g = number (g .0)

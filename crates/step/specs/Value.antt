@@ -1,0 +1,18 @@
+-- The paper's answer for each case of the enums.
+use Prim.Native.Nat.{ℕ}
+use Rattle.semantics.specs.Base.{Answer, refused, gives}
+use Rattle.semantics.specs.Step as Paper
+use Rattle.mask.specs.Number.{sharedNumber}
+use Rattle.step.specs.declared.Decision.{Decision}
+use Rattle.step.specs.declared.Decision.the-variants.{Go, Wait, Collision}
+use Rattle.step.specs.declared.Stepped.{Stepped}
+use Rattle.step.specs.declared.Stepped.the-variants.{Refused, Gives}
+
+abbrev pub decisionOf : Decision → Paper.Decision ℕ
+decisionOf (Go g) = Paper.go (sharedNumber g)
+decisionOf Wait = Paper.wait
+decisionOf Collision = Paper.collision
+
+abbrev pub steppedOf : Stepped → Answer (Paper.Decision ℕ)
+steppedOf (Refused k) = refused k
+steppedOf (Gives d) = gives (decisionOf d)
