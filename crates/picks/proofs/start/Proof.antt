@@ -1,0 +1,14 @@
+-- `picks::start` meets its contract. Assumes nothing.
+use borrow.Author.Needs.{needs}
+use Rattle.picks.proofs.Laws.{starts}
+use Rattle.picks.proofs.start.Statement.{statement}
+use Rattle.picks.proofs.start.Tie as tie
+
+initial-requires : tie.Need-initial-requires
+initial-requires c κs = search needs
+
+returns : tie.Need-returns
+returns c = search starts
+
+pub start-spec : {M : Type 1} → statement M
+start-spec = tie.close (tie.spec initial-requires returns)
