@@ -1,0 +1,320 @@
+-- Laws of the meanings' records, fields and numbers, over lists of bytes. Assumes nothing.
+use mathlib.Core.Path.{_≡_, refl, sym, ap, _∙_}
+use mathlib.Core.Bool.{Bool, true, false, cond, not, _&&_}
+use mathlib.Core.List.{List, [], _∷_, _++_, map, foldl-append, flatten, append-assoc, append-nil}
+use Prim.Native.Nat.{ℕ, _+_, _-_, _*_, _^_, _≤_, _<_}
+use native.Mathlib.Omega.{arith}
+use lib.ListN.{length, length-append}
+use lib.Dec.{eqb, ltb, leb}
+use borrow.Author.Tests.{lt-ltb, le-ltb, le-leb, lt-leb, leb-true, eq-eqb, ne-eqb, eqb-false}
+use Rattle.theory.proofs.Lists.{and-elim}
+use Rattle.semantics.specs.Base.{all}
+use Rattle.semantics.specs.Task.{rowWidth}
+use Rattle.semantics.specs.Text.{comma, cr, lf, mostRecords, isDigit, recordsFrom, records, fieldsFrom, fields, number, noLeadingZero, isField, isRecord, isText, textWords}
+
+-- ---- tests
+
+pub cond-ind : {A : Type 0} (P : A → Type 0) (b : Bool) {x y : A} → (b ≡ true → P x) → (b ≡ false → P y) → P (cond b x y)
+cond-ind P true f g = f refl
+cond-ind P false f g = g refl
+
+pub and-false : (b : Bool) → (b && false) ≡ false
+and-false true = refl
+and-false false = refl
+
+pub and-left : (a b : Bool) → (a && b) ≡ true → a ≡ true
+and-left a b h = and-elim a b h .0
+
+pub and-right : (a b : Bool) → (a && b) ≡ true → b ≡ true
+and-right a b h = and-elim a b h .1
+
+module _ {A : Type 0} (test : A → Bool) where
+  pub all-append : (xs ys : List A) → all test (xs ++ ys) ≡ (all test xs && all test ys)
+  unfolding all
+  all-append [] ys = refl
+  all-append (x ∷ xs) ys = go (test x) (all-append xs ys)
+    where
+      go : (b : Bool) → all test (xs ++ ys) ≡ (all test xs && all test ys) → (b && all test (xs ++ ys)) ≡ ((b && all test xs) && all test ys)
+      go true h = h
+      go false h = refl
+
+  pub all-one : (x : A) → all test (x ∷ []) ≡ test x
+  unfolding all
+  all-one x = go (test x)
+    where
+      go : (b : Bool) → (b && true) ≡ b
+      go true = refl
+      go false = refl
+
+  -- one that fails
+  pub all-fails : (xs ys : List A) → all test ys ≡ false → all test (xs ++ ys) ≡ false
+  all-fails xs ys h = all-append xs ys ∙ rw h (and-false (all test xs))
+
+  pub all-cons : (x : A) (xs : List A) → all test (x ∷ xs) ≡ (test x && all test xs)
+  unfolding all
+  all-cons x xs = refl
+
+  pub all-head : (x : A) (xs : List A) → test x ≡ false → all test (x ∷ xs) ≡ false
+  unfolding all
+  all-head x xs h = rw h
+
+  pub all-both : (xs ys : List A) → all test xs ≡ true → all test ys ≡ true → all test (xs ++ ys) ≡ true
+  all-both xs ys h g = all-append xs ys ∙ rw (h, g)
+
+-- ---- numbers and fields
+
+pub number-snoc : (ds : List ℕ) (b : ℕ) → number (ds ++ (b ∷ [])) ≡ 10 * number ds + (b - 48)
+unfolding number
+number-snoc ds b = foldl-append (λ (x : ℕ) (c : ℕ). 10 * x + (c - 48)) 0 ds (b ∷ [])
+
+pub number-grows : (ds s : List ℕ) → number ds ≤ number (ds ++ s)
+number-grows ds [] = rw append-nil (omega arith)
+number-grows ds (b ∷ s) =
+    let h : number (ds ++ (b ∷ [])) ≤ number ((ds ++ (b ∷ [])) ++ s) = number-grows (ds ++ (b ∷ [])) s in
+    let e : number (ds ++ (b ∷ [])) ≡ 10 * number ds + (b - 48) = number-snoc ds b in
+    let g : number ((ds ++ (b ∷ [])) ++ s) ≡ number (ds ++ (b ∷ s)) = ap number (append-assoc ds (b ∷ []) s) in
+    omega arith
+
+pub number-one : (b : ℕ) → number (b ∷ []) ≡ b - 48
+unfolding number
+number-one b = omega arith
+
+module _ (ds : List ℕ) (h : isField ds ≡ true) where
+  pub field-digits : all isDigit ds ≡ true
+  unfolding isField
+  field-digits =
+      and-left (all isDigit ds) (noLeadingZero ds) (and-left (all isDigit ds && noLeadingZero ds) (ltb (number ds) (2 ^ 64)) h)
+
+  pub field-leads : noLeadingZero ds ≡ true
+  unfolding isField
+  field-leads =
+      and-right (all isDigit ds) (noLeadingZero ds) (and-left (all isDigit ds && noLeadingZero ds) (ltb (number ds) (2 ^ 64)) h)
+
+pub field-made : (ds : List ℕ) → all isDigit ds ≡ true → noLeadingZero ds ≡ true → number ds < 2 ^ 64 → isField ds ≡ true
+unfolding isField
+field-made ds a z l = rw (a, z, lt-ltb (number ds) (2 ^ 64) l)
+
+pub digit-low : (b : ℕ) → isDigit b ≡ true → 48 ≤ b
+digit-low b h = leb-true 48 b (and-left (leb 48 b) (leb b 57) h)
+
+pub digit-high : (b : ℕ) → isDigit b ≡ true → b ≤ 57
+digit-high b h = leb-true b 57 (and-right (leb 48 b) (leb b 57) h)
+
+-- a byte that is no digit
+pub field-other : (ds : List ℕ) (b : ℕ) → isDigit b ≡ false → (s : List ℕ) → isField ((ds ++ (b ∷ [])) ++ s) ≡ false
+unfolding isField
+field-other ds b h s =
+    rw (append-assoc ds (b ∷ []) s, all-fails isDigit ds (b ∷ s) (all-head isDigit b s h))
+
+-- a number that does not fit
+pub field-large : (ds : List ℕ) → 2 ^ 64 ≤ number ds → (s : List ℕ) → isField (ds ++ s) ≡ false
+unfolding isField
+field-large ds h s =
+    let l : 2 ^ 64 ≤ number (ds ++ s) = omega (arith, number-grows ds s) in
+    rw (le-ltb (number (ds ++ s)) (2 ^ 64) l) (and-false (all isDigit (ds ++ s) && noLeadingZero (ds ++ s)))
+
+pub field-none : isField [] ≡ false
+unfolding isField all
+field-none = refl
+
+-- 0 alone has the value 0
+pub zero-field : (ds : List ℕ) → isField ds ≡ true → number ds ≡ 0 → ds ≡ 48 ∷ []
+zero-field [] h e = absurd (let z : _≡_ {A = ℕ} 0 1 = cc field-none in omega arith)
+zero-field (b ∷ []) h e =
+    let l : 48 ≤ b = digit-low b (sym (all-one isDigit b) ∙ field-digits (b ∷ []) h) in
+    let g : b ≡ 48 = omega (arith, number-one b) in
+    ap (λ (n : ℕ). n ∷ []) g
+zero-field (b ∷ c ∷ ds) h e =
+    let l : 48 ≤ b = digit-low b (and-left (isDigit b) (all isDigit (c ∷ ds)) (sym (all-cons isDigit b (c ∷ ds)) ∙ field-digits (b ∷ c ∷ ds) h)) in
+    let m : number (b ∷ []) ≤ number (b ∷ c ∷ ds) = number-grows (b ∷ []) (c ∷ ds) in
+    absurd (not-zero (eqb b 48) refl (field-leads (b ∷ c ∷ ds) h) (omega (arith, number-one b)))
+  where
+    not-zero : (t : Bool) → eqb b 48 ≡ t → not t ≡ true → b ≡ 48 → ⊥
+    not-zero true q n g = let z : _≡_ {A = ℕ} 0 1 = cc in omega arith
+    not-zero false q n g = eqb-false b 48 q g
+
+-- a digit after a leading zero
+pub field-zero : (ds : List ℕ) (b : ℕ) → isField ds ≡ true → number ds ≡ 0 → (s : List ℕ) → isField ((ds ++ (b ∷ [])) ++ s) ≡ false
+unfolding isField
+field-zero ds b h e s = rw (zero-field ds h e, and-false (all isDigit (48 ∷ b ∷ s)))
+
+pub field-one : (b : ℕ) → isDigit b ≡ true → isField (b ∷ []) ≡ true
+field-one b h =
+    field-made (b ∷ []) (all-one isDigit b ∙ h) refl (omega (arith, number-one b, digit-high b h))
+
+-- a digit more
+pub field-more : (ds : List ℕ) (b : ℕ) → isField ds ≡ true → (number ds ≡ 0 → ⊥) → isDigit b ≡ true → 10 * number ds + (b - 48) < 2 ^ 64
+    → isField (ds ++ (b ∷ [])) ≡ true
+field-more ds b h z d l =
+    field-made (ds ++ (b ∷ []))
+    (all-both isDigit ds (b ∷ []) (field-digits ds h) (all-one isDigit b ∙ d))
+    (leads ds h z)
+    (rw (number-snoc ds b) l)
+  where
+    leads : (ds : List ℕ) → isField ds ≡ true → (number ds ≡ 0 → ⊥) → noLeadingZero (ds ++ (b ∷ [])) ≡ true
+    leads [] h z = absurd (let z : _≡_ {A = ℕ} 0 1 = cc field-none in omega arith)
+    leads (c ∷ []) h z =
+        let e : eqb c 48 ≡ false = ne-eqb c 48 (λ (g : c ≡ 48). z (number-one c ∙ omega arith)) in
+        rw e
+    leads (c ∷ c′ ∷ ds) h z = field-leads (c ∷ c′ ∷ ds) h
+
+-- ---- the fields of a record
+
+pub fields-comma : (r q : List ℕ) → fieldsFrom r (comma ∷ q) ≡ r ∷ fieldsFrom [] q
+unfolding fieldsFrom
+fields-comma r q = refl
+
+pub fields-byte : (r q : List ℕ) (b : ℕ) → eqb b comma ≡ false → fieldsFrom r (b ∷ q) ≡ fieldsFrom (r ++ (b ∷ [])) q
+unfolding fieldsFrom
+fields-byte r q b h = rw h
+
+pub fields-last : (r : List ℕ) → fieldsFrom r [] ≡ r ∷ []
+unfolding fieldsFrom
+fields-last r = refl
+
+pub fields-some : (r q : List ℕ) → 0 < length (fieldsFrom r q)
+unfolding fieldsFrom
+fields-some r [] = omega arith
+fields-some r (b ∷ q) =
+    cond-ind (λ (fs : List (List ℕ)). 0 < length fs) (eqb b comma) (λ e. omega arith) (λ e. fields-some (r ++ (b ∷ [])) q)
+
+-- no way on makes the first field one
+pub fields-bad : (r q : List ℕ) → ((s : List ℕ) → isField (r ++ s) ≡ false) → all isField (fieldsFrom r q) ≡ false
+unfolding fieldsFrom
+fields-bad r [] h = all-one isField r ∙ ap isField (sym (append-nil r)) ∙ h []
+fields-bad r (b ∷ q) h =
+    cond-ind (λ (fs : List (List ℕ)). all isField fs ≡ false) (eqb b comma)
+    (λ e. all-head isField r (fieldsFrom [] q) (ap isField (sym (append-nil r)) ∙ h []))
+    (λ e. fields-bad (r ++ (b ∷ [])) q (λ s. ap isField (append-assoc r (b ∷ []) s) ∙ h (b ∷ s)))
+
+-- the bytes p are the fields done, each with its comma, and then ds
+abbrev pub Parsed : List ℕ → List (List ℕ) → List ℕ → Type 0
+Parsed p done ds = (q : List ℕ) → fieldsFrom [] (p ++ q) ≡ done ++ fieldsFrom ds q
+
+pub parsed-none : Parsed [] [] []
+parsed-none q = refl
+
+module _ (p : List ℕ) (done : List (List ℕ)) (ds : List ℕ) (parsed : Parsed p done ds) where
+  pub parsed-byte : (b : ℕ) → eqb b comma ≡ false → Parsed (p ++ (b ∷ [])) done (ds ++ (b ∷ []))
+  parsed-byte b h q = ap (fieldsFrom []) (append-assoc p (b ∷ []) q) ∙ parsed (b ∷ q) ∙ ap (λ (fs : List (List ℕ)). done ++ fs) (fields-byte ds q b h)
+
+  pub parsed-comma : Parsed (p ++ (comma ∷ [])) (done ++ (ds ∷ [])) []
+  parsed-comma q =
+      ap (fieldsFrom []) (append-assoc p (comma ∷ []) q) ∙ parsed (comma ∷ q) ∙ ap (λ (fs : List (List ℕ)). done ++ fs) (fields-comma ds q)
+      ∙ sym (append-assoc done (ds ∷ []) (fieldsFrom [] q))
+
+  pub parsed-fields : fields p ≡ done ++ (ds ∷ [])
+  parsed-fields = ap (fieldsFrom []) (sym (append-nil p)) ∙ parsed [] ∙ ap (λ (fs : List (List ℕ)). done ++ fs) (fields-last ds)
+
+-- ---- records
+
+-- no way on makes p a record
+abbrev pub Dead : List ℕ → Type 0
+Dead p = (q : List ℕ) → isRecord (p ++ q) ≡ false
+
+pub record-made : (p : List ℕ) → length (fields p) ≡ rowWidth → all isField (fields p) ≡ true → isRecord p ≡ true
+unfolding isRecord
+record-made p l h = rw (h, eq-eqb (length (fields p)) rowWidth l)
+
+pub record-bad : (p : List ℕ) → all isField (fields p) ≡ false → isRecord p ≡ false
+unfolding isRecord
+record-bad p h = rw h (and-false (eqb (length (fields p)) rowWidth))
+
+pub record-wrong : (p : List ℕ) → (length (fields p) ≡ rowWidth → ⊥) → isRecord p ≡ false
+unfolding isRecord
+record-wrong p h = rw (ne-eqb (length (fields p)) rowWidth h)
+
+module _ (p : List ℕ) (done : List (List ℕ)) (ds : List ℕ) (parsed : Parsed p done ds) where
+  pub dead-field : ((s : List ℕ) → isField (ds ++ s) ≡ false) → Dead p
+  dead-field h q = record-bad (p ++ q) (ap (all isField) (parsed q) ∙ all-fails isField done (fieldsFrom ds q) (fields-bad ds q h))
+
+  pub dead-many : rowWidth ≤ length done → Dead p
+  dead-many h q =
+      let e : length (fields (p ++ q)) ≡ length done + length (fieldsFrom ds q) = ap length (parsed q) ∙ length-append done (fieldsFrom ds q) in
+      record-wrong (p ++ q) (λ g. omega (arith, fields-some ds q))
+
+  pub dead-done : all isField done ≡ false → Dead p
+  dead-done h q =
+      record-bad (p ++ q) (ap (all isField) (parsed q) ∙ all-append isField done (fieldsFrom ds q) ∙ rw h)
+
+pub snoc-some : (p : List ℕ) (b : ℕ) → p ++ (b ∷ []) ≡ [] → ⊥
+snoc-some p b e = omega (arith, length-append p (b ∷ []), ap length e)
+
+pub records-end : (p : List ℕ) → (p ≡ [] → ⊥) → recordsFrom p [] ≡ p ∷ []
+unfolding recordsFrom
+records-end [] h = absurd (h refl)
+records-end (c ∷ p) h = refl
+
+pub records-line : (p t : List ℕ) → recordsFrom p (cr ∷ lf ∷ t) ≡ p ∷ recordsFrom [] t
+unfolding recordsFrom
+records-line [] t = refl
+records-line (c ∷ p) t = refl
+
+pub records-byte : (p t : List ℕ) (b : ℕ) → eqb b cr ≡ false → recordsFrom p (b ∷ t) ≡ recordsFrom (p ++ (b ∷ [])) t
+unfolding recordsFrom
+records-byte [] [] b h = refl
+records-byte (c ∷ p) [] b h = refl
+records-byte [] (d ∷ t) b h = rw h
+records-byte (c ∷ p) (d ∷ t) b h = rw h
+
+pub records-cr : (p t : List ℕ) (b : ℕ) → eqb b lf ≡ false → recordsFrom p (cr ∷ b ∷ t) ≡ recordsFrom (p ++ (cr ∷ [])) (b ∷ t)
+unfolding recordsFrom
+records-cr [] t b h = rw h
+records-cr (c ∷ p) t b h = rw h
+
+pub records-cr-end : (p : List ℕ) → recordsFrom p (cr ∷ []) ≡ (p ++ (cr ∷ [])) ∷ []
+unfolding recordsFrom
+records-cr-end [] = refl
+records-cr-end (c ∷ p) = refl
+
+pub records-next : (p t : List ℕ) (b : ℕ) → isRecord p ≡ false → all isRecord (recordsFrom (p ++ (b ∷ [])) t) ≡ false
+    → all isRecord (recordsFrom p (b ∷ t)) ≡ false
+unfolding recordsFrom
+records-next [] [] b n h = h
+records-next (c ∷ p) [] b n h = h
+records-next [] (d ∷ t) b n h =
+    cond-ind (λ (rs : List (List ℕ)). all isRecord rs ≡ false) (eqb b cr && eqb d lf) (λ e. all-head isRecord [] (recordsFrom [] t) n) (λ e. h)
+records-next (c ∷ p) (d ∷ t) b n h =
+    cond-ind (λ (rs : List (List ℕ)). all isRecord rs ≡ false) (eqb b cr && eqb d lf) (λ e. all-head isRecord (c ∷ p) (recordsFrom [] t) n) (λ e. h)
+
+pub records-dead : (p t : List ℕ) → (p ≡ [] → ⊥) → Dead p → all isRecord (recordsFrom p t) ≡ false
+records-dead p [] n h = ap (all isRecord) (records-end p n) ∙ all-head isRecord p [] (ap isRecord (sym (append-nil p)) ∙ h [])
+records-dead p (b ∷ t) n h =
+    records-next p t b (ap isRecord (sym (append-nil p)) ∙ h [])
+    (records-dead (p ++ (b ∷ [])) t (snoc-some p b) (λ q. ap isRecord (append-assoc p (b ∷ []) q) ∙ h (b ∷ q)))
+
+pub records-some : (p t : List ℕ) (b : ℕ) → 0 < length (recordsFrom p (b ∷ t))
+unfolding recordsFrom
+records-some [] [] b = omega arith
+records-some (c ∷ p) [] b = omega arith
+records-some [] (d ∷ t) b =
+    cond-ind (λ (rs : List (List ℕ)). 0 < length rs) (eqb b cr && eqb d lf) (λ e. omega arith) (λ e. records-some (b ∷ []) t d)
+records-some (c ∷ p) (d ∷ t) b =
+    cond-ind (λ (rs : List (List ℕ)). 0 < length rs) (eqb b cr && eqb d lf) (λ e. omega arith) (λ e. records-some (c ∷ (p ++ (b ∷ []))) t d)
+
+-- ---- texts
+
+-- the words of some records
+abbrev pub wordsOf : List (List ℕ) → List ℕ
+wordsOf rs = flatten (map (λ r. map number (fields r)) rs)
+
+pub words-snoc : (rs : List (List ℕ)) (p : List ℕ) → wordsOf (rs ++ (p ∷ [])) ≡ wordsOf rs ++ map number (fields p)
+unfolding flatten
+words-snoc [] p = append-nil (map number (fields p))
+words-snoc (r ∷ rs) p = ap (λ (ws : List ℕ). map number (fields r) ++ ws) (words-snoc rs p) ∙ sym (append-assoc (map number (fields r)) (wordsOf rs) (map number (fields p)))
+
+pub words-text : (text : List ℕ) (rs : List (List ℕ)) → records text ≡ rs → textWords text ≡ wordsOf rs
+unfolding textWords
+words-text text rs e = ap wordsOf e
+
+pub text-good : (text : List ℕ) → length (records text) ≤ mostRecords → all isRecord (records text) ≡ true → isText text ≡ true
+unfolding isText
+text-good text l h = rw (le-leb (length (records text)) mostRecords l, h)
+
+pub text-bad : (text : List ℕ) → all isRecord (records text) ≡ false → isText text ≡ false
+unfolding isText
+text-bad text h = rw h (and-false (leb (length (records text)) mostRecords))
+
+pub text-long : (text : List ℕ) → mostRecords < length (records text) → isText text ≡ false
+unfolding isText
+text-long text h = rw (lt-leb (length (records text)) mostRecords h)

@@ -1,0 +1,4 @@
+pub mod Byte
+pub mod Place
+pub mod Post
+pub mod Written

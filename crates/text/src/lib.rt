@@ -1,0 +1,287 @@
+// The text reader: bytes in, the words of a task out.
+ghost use mathlib.Core.Path.{_≡_};
+ghost use mathlib.Core.List.{_++_};
+ghost use Prim.Native.Nat.{_-_, _≤_};
+ghost use lib.ListN.{length, take, replicate};
+ghost use Rattle.text.specs.Byte.{byteMeans};
+ghost use Rattle.text.specs.Place.{at, InReach, stepOf, lastOf};
+ghost use Rattle.text.specs.Post.{mostWords, scanMeans, reading};
+ghost use Rattle.semantics.specs.Base.{zeroed};
+ghost use Rattle.semantics.specs.Text.{readText};
+
+// Words in a row.
+const ROW: usize = 5;
+
+const MOST_RECORDS: usize = 265;
+
+const MOST_WORDS: usize = ROW * MOST_RECORDS;
+
+// 2^64 - 1.
+const LARGEST: u64 = 18446744073709551615;
+
+// What a byte is to the reader; of a digit, its value.
+pub enum Byte {
+    Digit(u64),
+    Comma,
+    Cr,
+    Lf,
+    Other,
+}
+
+// What was read of the present field: nothing, or digits that write a number; or the record's fields are all read, and CR.
+pub enum Field {
+    Empty,
+    Number(u64),
+    Ended,
+}
+
+// Where the reader stands: the records before, the fields of this record before, and the field.
+pub struct Place {
+    pub records: usize,
+    pub fields: usize,
+    pub field: Field,
+}
+
+// What a byte leads to: a place; a word that is read, and a place; or the text is none.
+pub enum Next {
+    On(Place),
+    Word(u64, Place),
+    Bad,
+}
+
+// What the end of the text leads to: the number of records, with or without a word that is read there; or the text is none.
+pub enum Last {
+    Records(usize),
+    Word(u64, usize),
+    Bad,
+}
+
+// What the whole text is: the number of its records; or the text is none.
+pub enum Scan {
+    Records(usize),
+    Bad,
+}
+
+// The answer: the number of records, or a refusal.
+pub enum TextRead {
+    Records(usize),
+    Refused(u64),
+}
+
+// The byte reader.
+fn sort(b: u8) -> Byte
+    ensures { λ r. ⌜ byteMeans b r ⌝ }
+{
+    match b {
+        b'0'..=b'9' => {
+            let d = (b - b'0') as u64;
+            Byte::Digit(d)
+        }
+        b',' => Byte::Comma,
+        b'\r' => Byte::Cr,
+        b'\n' => Byte::Lf,
+        _ => Byte::Other,
+    }
+}
+
+// The record reader: what the byte b leads to from the place p.
+fn step(p: Place, b: Byte) -> Next
+    requires { ⌜ InReach p ⌝ }
+    ensures { λ r. ⌜ r ≡ stepOf p b ⌝ }
+{
+    let records = p.records;
+    let fields = p.fields;
+    let field = p.field;
+    let next_record = records + 1;
+    let next_field = fields + 1;
+    match field {
+        Field::Empty => match b {
+            Byte::Digit(d) => {
+                if records < MOST_RECORDS {
+                    Next::On(Place {
+                        records,
+                        fields,
+                        field: Field::Number(d),
+                    })
+                } else {
+                    Next::Bad
+                }
+            }
+            _ => Next::Bad,
+        },
+        Field::Number(v) => match b {
+            Byte::Digit(d) => {
+                if v == 0 {
+                    return Next::Bad;
+                }
+                if v <= (LARGEST - d) / 10 {
+                    let value = 10 * v + d;
+                    Next::On(Place {
+                        records,
+                        fields,
+                        field: Field::Number(value),
+                    })
+                } else {
+                    Next::Bad
+                }
+            }
+            Byte::Comma => {
+                if next_field < ROW {
+                    Next::Word(
+                        v,
+                        Place {
+                            records,
+                            fields: next_field,
+                            field: Field::Empty,
+                        },
+                    )
+                } else {
+                    Next::Bad
+                }
+            }
+            Byte::Cr => {
+                if next_field == ROW {
+                    Next::Word(
+                        v,
+                        Place {
+                            records,
+                            fields: next_field,
+                            field: Field::Ended,
+                        },
+                    )
+                } else {
+                    Next::Bad
+                }
+            }
+            Byte::Lf => Next::Bad,
+            Byte::Other => Next::Bad,
+        },
+        Field::Ended => match b {
+            Byte::Lf => Next::On(Place {
+                records: next_record,
+                fields: 0,
+                field: Field::Empty,
+            }),
+            _ => Next::Bad,
+        },
+    }
+}
+
+// What the end of the text leads to from the place p.
+fn at_end(p: Place) -> Last
+    requires { ⌜ InReach p ⌝ }
+    ensures { λ r. ⌜ r ≡ lastOf p ⌝ }
+{
+    let records = p.records;
+    let fields = p.fields;
+    let field = p.field;
+    let next_record = records + 1;
+    let next_field = fields + 1;
+    match field {
+        Field::Empty => {
+            if fields == 0 {
+                Last::Records(records)
+            } else {
+                Last::Bad
+            }
+        }
+        Field::Number(v) => {
+            if next_field == ROW {
+                Last::Word(v, next_record)
+            } else {
+                Last::Bad
+            }
+        }
+        Field::Ended => Last::Bad,
+    }
+}
+
+// The place before the first byte.
+fn start() -> Place
+    ensures { λ r. ⌜ r ≡ at 0 0 Field.Empty ⌝ }
+{
+    Place {
+        records: 0,
+        fields: 0,
+        field: Field::Empty,
+    }
+}
+
+// The words of the text go to the front of the slice, which is as long as any text asks.
+fn scan_text(text: &[u8], words: &mut [u64]) -> Scan
+    requires { ⌜ mostWords ≤ length (now words) ⌝ }
+    ensures { λ r. ⌜ scanMeans (now (text .entry)) (now (words .exit)) r ⌝ }
+{
+    let mut place = start();
+    let mut count = 0;
+    let mut i = 0;
+    while i < text.len() {
+        let next = step(place, sort(text[i]));
+        i += 1;
+        match next {
+            Next::On(p) => {
+                place = p;
+            }
+            Next::Word(v, p) => {
+                words[count] = v;
+                count += 1;
+                place = p;
+            }
+            Next::Bad => {
+                return Scan::Bad;
+            }
+        }
+    }
+    let end = at_end(place);
+    match end {
+        Last::Records(n) => Scan::Records(n),
+        Last::Word(v, n) => {
+            words[count] = v;
+            Scan::Records(n)
+        }
+        Last::Bad => Scan::Bad,
+    }
+}
+
+// Each entry from `from` on is 0.
+fn clear(words: &mut [u64], from: usize)
+    requires { ⌜ from ≤ length (now words) ⌝ }
+    ensures { λ _. ⌜ now (words .exit) ≡ take from (now (words .entry)) ++ replicate (length (now (words .entry)) - from) 0 ⌝ }
+{
+    let mut i = from;
+    while i < words.len() {
+        words[i] = 0;
+        i += 1;
+    }
+}
+
+// A refusal after which the slice is all zeros.
+fn refuse(words: &mut [u64], refusal: u64) -> TextRead
+    ensures { λ r. ⌜ (r ≡ TextRead.Refused refusal) × (now (words .exit) ≡ zeroed (now (words .entry))) ⌝ }
+{
+    clear(words, 0);
+    TextRead::Refused(refusal)
+}
+
+// The text reader: the text's words go to the front of the slice, zeros after them, and the answer is the number of records; or a refusal.
+pub fn read(text: &[u8], words: &mut [u64]) -> TextRead
+    ensures { λ r. ⌜ reading r (now (words .exit)) ≡ readText (now (text .entry)) (now (words .entry)) ⌝ }
+{
+    if words.len() < MOST_WORDS {
+        return TextRead::Refused(14);
+    }
+    let scan = scan_text(text, words);
+    match scan {
+        Scan::Records(n) => {
+            let end = ROW * n;
+            let refusal = task::check(&words[..end]);
+            if refusal == 0 {
+                clear(words, end);
+                TextRead::Records(n)
+            } else {
+                refuse(words, refusal)
+            }
+        }
+        Scan::Bad => refuse(words, 15),
+    }
+}
