@@ -1,0 +1,60 @@
+//! Laws, plans and texts that fill the tables.
+
+use reference::generate::families::{chains_of, counters};
+use reference::generate::{text, Law};
+
+/// One member with 2^facts local copies, and as many configurations.
+pub fn counter(facts: usize) -> Law {
+    counters(1, facts)
+}
+
+/// The same law with each action repeated in turn until there are `actions` of them.
+pub fn repeated(law: Law, actions: usize) -> Law {
+    let actions = law.actions.iter().copied().cycle().take(actions).collect();
+    Law { actions, ..law }
+}
+
+/// Chains of these lengths: their product is the number of configurations.
+pub fn grid(lengths: &[usize]) -> Law {
+    chains_of(lengths)
+}
+
+/// A grid in which the last member's last step takes the first member's goal away: missed in the end.
+pub fn grid_with_fault(lengths: &[usize]) -> Law {
+    let mut law = chains_of(lengths);
+    let goal = law.goals[0];
+    if let Some(last) = law.actions.last_mut() {
+        last[4] |= goal;
+    }
+    law
+}
+
+/// Eight members who turn one fact each over and back, `steps` steps in all: plans, ends and picks.
+pub fn long_run(steps: usize) -> (Law, Vec<u16>, Vec<u64>, Vec<u8>) {
+    let law = counters(8, 1);
+    let each = steps / 8;
+    let (mut plans, mut ends) = (Vec::new(), Vec::new());
+    for member in 0..8 {
+        // Actions 2i and 2i + 1 of member i set its fact and clear it; the goal asks that it stands.
+        plans.extend((0..each).map(|step| (2 * member + step % 2) as u16));
+        if each.is_multiple_of(2) {
+            plans.push((2 * member) as u16);
+        }
+        ends.push(plans.len() as u64);
+    }
+    let rounds = plans.len() / 8;
+    let picks = (0..rounds).flat_map(|_| 0..8u8).collect();
+    (law, plans, ends, picks)
+}
+
+/// A text with this many records, all masks wide: F = 64, n = 8.
+pub fn wide_text(records: usize) -> String {
+    let (members, wide) = (8, u64::MAX);
+    let law = Law {
+        facts: 64,
+        initial: wide,
+        goals: vec![wide; members],
+        actions: (0..records - 1 - members).map(|a| [(a % 8) as u64, wide, wide, wide, wide]).collect(),
+    };
+    text::of_words(&law.words())
+}

@@ -1,0 +1,163 @@
+//! One case: what was asked, what was expected, and what differs.
+
+use crate::lent::Lent;
+use reference::generate::{text, Cell};
+use std::fmt;
+
+/// How a case came out, for the count of what was covered.
+#[derive(Clone, Copy, Debug, PartialEq, Eq, PartialOrd, Ord)]
+pub enum Class {
+    Answer(u64),
+    Refusal(u64),
+}
+
+/// A case that was run.
+pub struct Checked {
+    pub operation: &'static str,
+    pub class: Class,
+    /// The verdict was held against brute force too.
+    pub brute: bool,
+    /// Runs of a robust law were played to the finish.
+    pub played: bool,
+    pub failure: Option<Failure>,
+}
+
+/// What goes into an operation.
+pub enum Input {
+    Task(Vec<u64>),
+    Text(Vec<u8>),
+}
+
+/// A case that failed, to be printed.
+pub struct Failure {
+    pub operation: &'static str,
+    pub input: Input,
+    pub others: Vec<(&'static str, String)>,
+    pub answers: [String; 2],
+    pub differences: Vec<String>,
+}
+
+/// Collects the differences of one case.
+pub struct Comparison {
+    operation: &'static str,
+    answers: [String; 2],
+    differences: Vec<String>,
+    pub brute: bool,
+    pub played: bool,
+}
+
+impl Comparison {
+    pub fn new(operation: &'static str) -> Comparison {
+        Comparison {
+            operation,
+            answers: [String::new(), String::new()],
+            differences: Vec::new(),
+            brute: false,
+            played: false,
+        }
+    }
+
+    /// Compares the return and `out`.
+    pub fn answer(&mut self, expected: (u64, &[u64]), found: u64, out: &Lent<u64>) {
+        if expected.0 != found {
+            self.differ(format!("the return: expected {}, found {found}", expected.0));
+        }
+        self.slice("out", expected.1, out);
+        if !self.differences.is_empty() {
+            let show = |number, out| format!("returns {number}, out {}", list(out));
+            self.answers = [show(expected.0, expected.1), show(found, out.held())];
+        }
+    }
+
+    /// Compares a lent slice cell by cell.
+    pub fn slice<T: Cell>(&mut self, name: &str, expected: &[T], found: &Lent<T>) {
+        self.guards(name, found);
+        let differs = |(_, (one, other)): &(usize, (&T, &T))| one != other;
+        let different = expected.iter().zip(found.held()).enumerate().find(differs);
+        if let Some((place, (expected, found))) = different {
+            self.differ(format!("{name}, entry {place}: expected {expected}, found {found}"));
+        }
+    }
+
+    /// Looks at the cells around a lent slice whose contents are free.
+    pub fn guards<T: Cell>(&mut self, name: &str, found: &Lent<T>) {
+        if found.overrun() {
+            self.differ(format!("{name}: written outside the slice"));
+        }
+    }
+
+    /// Notes a difference.
+    pub fn differ(&mut self, difference: String) {
+        self.differences.push(difference);
+    }
+
+    /// Notes both answers in full.
+    pub fn set_answers(&mut self, expected: String, found: String) {
+        self.answers = [expected, found];
+    }
+
+    /// Closes the case; `describe` gives its inputs where it failed.
+    pub fn close(
+        self,
+        class: Class,
+        describe: impl FnOnce() -> (Input, Vec<(&'static str, String)>),
+    ) -> Checked {
+        let failure = (!self.differences.is_empty()).then(|| {
+            let (input, others) = describe();
+            Failure {
+                operation: self.operation,
+                input,
+                others,
+                answers: self.answers,
+                differences: self.differences,
+            }
+        });
+        Checked { operation: self.operation, class, brute: self.brute, played: self.played, failure }
+    }
+}
+
+/// The class of a case by the return that is expected and the answer's number.
+pub fn class(expected: u64, answer: u64) -> Class {
+    if expected == 0 {
+        Class::Answer(answer)
+    } else {
+        Class::Refusal(expected)
+    }
+}
+
+/// A slice as text.
+pub fn list<T: Cell>(cells: &[T]) -> String {
+    let cells: Vec<String> = cells.iter().map(T::to_string).collect();
+    format!("[{}]", cells.join(" "))
+}
+
+impl fmt::Display for Failure {
+    fn fmt(&self, to: &mut fmt::Formatter) -> fmt::Result {
+        writeln!(to, "{}", self.operation)?;
+        match &self.input {
+            Input::Task(words) => {
+                if words.len() % 5 != 0 {
+                    writeln!(to, "the task has {} words, and its last record is short:", words.len())?;
+                }
+                write!(to, "{}", text::of_words(words))?;
+            }
+            Input::Text(bytes) => {
+                writeln!(to, "the text in escapes: \"{}\"", bytes.escape_ascii())?;
+                write!(to, "{}", String::from_utf8_lossy(bytes))?;
+                writeln!(to)?;
+            }
+        }
+        for (name, value) in &self.others {
+            writeln!(to, "  {name}: {value}")?;
+        }
+        let [expected, found] = &self.answers;
+        if !expected.is_empty() || !found.is_empty() {
+            writeln!(to, "  expected: {expected}")?;
+            writeln!(to, "  found: {found}")?;
+        }
+        for difference in &self.differences {
+            writeln!(to, "  differs: {difference}")?;
+        }
+        Ok(())
+    }
+}

@@ -1,0 +1,77 @@
+//! What the cases covered: how often each operation gave each answer and each refusal.
+
+use crate::case::{Checked, Class};
+use std::collections::BTreeMap;
+
+/// Counts by operation and class.
+#[derive(Default)]
+pub struct Coverage {
+    counts: BTreeMap<(&'static str, Class), u64>,
+    brute: u64,
+    played: u64,
+}
+
+/// Every class that a comparison of full size has to meet, by operation.
+const ASKED: [(&str, &[u64], &[u64]); 8] = [
+    ("lawcheck_task", &[0], &[1, 2, 3, 4, 5, 6]),
+    ("lawcheck_step", &[0, 1, 2], &[1, 2, 3, 4, 5, 6, 7, 14]),
+    ("lawcheck_solo_replay", &[0, 1, 2], &[1, 2, 3, 4, 5, 6, 7, 8, 10, 14]),
+    ("lawcheck_solo_search", &[0, 1], &[1, 2, 3, 4, 5, 6, 8, 9, 14]),
+    ("lawcheck_joint_replay", &[0, 1, 2, 3, 4], &[1, 2, 3, 4, 5, 6, 7, 8, 10, 11, 12, 13, 14]),
+    ("lawcheck_pick", &[0, 1], &[1, 2, 3, 4, 5, 6, 7, 8, 10, 11, 12, 13, 14]),
+    ("lawcheck_verdict", &[0, 1, 2, 3, 4], &[1, 2, 3, 4, 5, 6, 9, 14]),
+    ("lawcheck_read", &[0], &[1, 2, 3, 4, 5, 6, 14, 15]),
+];
+
+impl Coverage {
+    /// Counts a case.
+    pub fn count(&mut self, checked: &Checked) {
+        *self.counts.entry((checked.operation, checked.class)).or_default() += 1;
+        self.brute += checked.brute as u64;
+        self.played += checked.played as u64;
+    }
+
+    /// Takes in another count.
+    pub fn take(&mut self, other: Coverage) {
+        for (key, count) in other.counts {
+            *self.counts.entry(key).or_default() += count;
+        }
+        self.brute += other.brute;
+        self.played += other.played;
+    }
+
+    /// The classes that no case met.
+    pub fn missing(&self) -> Vec<String> {
+        let mut missing = Vec::new();
+        for (operation, answers, refusals) in ASKED {
+            let answers = answers.iter().map(|&number| Class::Answer(number));
+            let refusals = refusals.iter().map(|&number| Class::Refusal(number));
+            for class in answers.chain(refusals) {
+                if !self.counts.contains_key(&(operation, class)) {
+                    missing.push(format!("{operation}: no case met {class:?}"));
+                }
+            }
+        }
+        missing
+    }
+
+    /// One line for each operation.
+    pub fn lines(&self) -> Vec<String> {
+        let mut lines = Vec::new();
+        for (operation, ..) in ASKED {
+            let mut line = format!("{operation}:");
+            for ((_, class), count) in self.counts.iter().filter(|((name, _), _)| *name == operation) {
+                line += &match class {
+                    Class::Answer(number) => format!(" answer {number} {count},"),
+                    Class::Refusal(number) => format!(" refusal {number} {count},"),
+                };
+            }
+            lines.push(line.trim_end_matches(',').to_string());
+        }
+        lines.push(format!(
+            "verdicts beside brute force: {}, beside played runs: {}",
+            self.brute, self.played
+        ));
+        lines
+    }
+}

@@ -1,0 +1,67 @@
+//! The task check and the step.
+
+use super::task_words;
+use crate::case::{class, list, Checked, Comparison, Input};
+use crate::lent::Lent;
+use reference::generate::{contents, length_near};
+use reference::interface::{out_length, Interface};
+use reference::paper::interface as paper;
+use reference::random::Random;
+
+pub fn task(random: &mut Random, checked: &impl Interface) -> Checked {
+    let words = task_words(random, 80);
+    let expected = paper::task(&words);
+    let found = checked.task(&words);
+    let mut comparison = Comparison::new("lawcheck_task");
+    comparison.answer((expected, &[]), found, &Lent::new(&[]));
+    comparison.close(class(expected, 0), || (Input::Task(words), Vec::new()))
+}
+
+pub fn step(random: &mut Random, checked: &impl Interface) -> Checked {
+    let words = task_words(random, 10);
+    let actions = words.get(2).copied().unwrap_or(0).min(256) as usize;
+    let action = match random.below(12) {
+        0 => random.one_of(&[actions as u16, 256, u16::MAX]),
+        _ => random.below(actions.max(1)) as u16,
+    };
+    let shared = shared_copy(random, &words, action);
+    let out = random_out(random, out_length::STEP);
+    let mut expected_out = out.clone();
+    let expected = paper::step(&words, action, &shared, &mut expected_out);
+    let mut found_out = Lent::new(&out);
+    let found = checked.step(&words, action, &shared, found_out.slice());
+    let mut comparison = Comparison::new("lawcheck_step");
+    comparison.answer((expected, &expected_out), found, &found_out);
+    let answer = expected_out.first().copied().unwrap_or(0);
+    comparison.close(class(expected, answer), || {
+        let others =
+            vec![("action", action.to_string()), ("shared", list(&shared)), ("out at entry", list(&out))];
+        (Input::Task(words), others)
+    })
+}
+
+/// A shared copy: near the action's preconditions, anything within F, or anything; mostly one word.
+fn shared_copy(random: &mut Random, words: &[u64], action: u16) -> Vec<u64> {
+    let facts = words.first().copied().unwrap_or(1).clamp(1, 64);
+    let known = u64::MAX >> (64 - facts);
+    let goals = words.get(1).copied().unwrap_or(1).min(8) as usize;
+    let row = 5 * (1 + goals + action as usize);
+    let word = match (random.below(10), words.get(row..row + 5)) {
+        (0..=2, Some(row)) => (row[1] | random.word()) & known,
+        (3..=5, Some(row)) => (row[2] | random.word()) & known,
+        (6, _) => random.word(),
+        (7, _) => u64::MAX,
+        _ => random.word() & known,
+    };
+    let length = if random.chance(95) { 1 } else { random.one_of(&[0, 2, 3]) };
+    vec![word; length]
+}
+
+/// An `out` at entry: mostly just long enough.
+pub fn random_out(random: &mut Random, asked: usize) -> Vec<u64> {
+    let length = match random.below(20) {
+        0 => random.below(asked),
+        _ => length_near(random, asked).max(asked),
+    };
+    contents(random, length)
+}

@@ -1,0 +1,331 @@
+//! The verdict: its class and tables, its conflict by replay in both implementations, runs played to the
+//! finish where it is robust, and brute force beside it where a law is small.
+
+use super::step::random_out;
+use super::task_words;
+use crate::case::{list, Checked, Class, Comparison, Input};
+use crate::lent::Lent;
+use reference::brute;
+use reference::fast::{count_configurations, Copies, Task};
+use reference::generate::plans::{Bundle, Planner};
+use reference::generate::{contents, length_near};
+use reference::interface::{out_length, Interface, TOO_SHORT};
+use reference::paper::conflict::Conflict;
+use reference::paper::interface::outcome_numbers;
+use reference::paper::run::{joint_replay, Outcome};
+use reference::paper::task::check;
+use reference::paper::verdict::{self as paper, Class as PaperClass};
+use reference::paper::Refusal;
+use reference::random::Random;
+
+/// The most configurations that a table is lent for, mostly and at times.
+const MOST: [usize; 2] = [400, 2000];
+
+/// The slices that are lent, as they are at entry or as the paper leaves them.
+#[derive(Clone)]
+struct Slices {
+    local: Vec<u64>,
+    marks: Vec<u8>,
+    configurations: Vec<u64>,
+    trail: Vec<u64>,
+    plans: Vec<u16>,
+    ends: Vec<u64>,
+    picks: Vec<u8>,
+    out: Vec<u64>,
+}
+
+/// The same slices as they are lent.
+struct LentSlices {
+    local: Lent<u64>,
+    marks: Lent<u8>,
+    configurations: Lent<u64>,
+    trail: Lent<u64>,
+    plans: Lent<u16>,
+    ends: Lent<u64>,
+    picks: Lent<u8>,
+    out: Lent<u64>,
+}
+
+/// A number of rows near what is needed: just enough, one too few, some more, few or none.
+pub fn rows_near(random: &mut Random, needed: Option<usize>, most: usize) -> usize {
+    let needed = needed.unwrap_or(most);
+    let rows = match random.below(100) {
+        0..=54 => needed,
+        55..=67 => needed.saturating_sub(1),
+        68..=91 => needed + random.between(1, 6),
+        92..=95 => random.below(needed + 1),
+        96 => 0,
+        _ => 1,
+    };
+    rows.min(most)
+}
+
+/// Slices of lengths near what the task needs.
+fn slices(random: &mut Random, words: &[u64]) -> Slices {
+    let planner = Planner::new(words);
+    let members = planner.as_ref().map_or(2, |planner| planner.task.members());
+    let tables: Option<Vec<Copies>> = planner.and_then(|planner| planner.tables.into_iter().collect());
+    let most_copies = tables.as_ref().and_then(|tables| tables.iter().map(|table| table.rows.len()).max());
+    let rows = rows_near(random, most_copies, 1024);
+    let cap = if random.chance(1) { MOST[1] } else { MOST[0] };
+    let needed = tables.zip(Task::check(words).ok()).and_then(|(tables, task)| {
+        let live = tables.iter().all(|table| table.live(task.initial));
+        if live {
+            count_configurations(&task, &tables, cap)
+        } else {
+            Some(3)
+        }
+    });
+    let most = rows_near(random, needed, cap);
+    let local = members * rows + random.below(members);
+    let configurations = (members + 1) * most + random.below(members + 1);
+    let spared = random.chance(40);
+    let mut length = |asked| if spared { asked } else { length_near(random, asked) };
+    let marks = length(members * rows);
+    let trail = length(2 * most);
+    let plans = length(most + members * rows);
+    let ends = length(members);
+    let picks = length(most);
+    Slices {
+        local: contents(random, local),
+        marks: contents(random, marks),
+        configurations: contents(random, configurations),
+        trail: contents(random, trail),
+        plans: contents(random, plans),
+        ends: contents(random, ends),
+        picks: contents(random, picks),
+        out: random_out(random, out_length::VERDICT),
+    }
+}
+
+impl Slices {
+    fn lend(&self) -> LentSlices {
+        LentSlices {
+            local: Lent::new(&self.local),
+            marks: Lent::new(&self.marks),
+            configurations: Lent::new(&self.configurations),
+            trail: Lent::new(&self.trail),
+            plans: Lent::new(&self.plans),
+            ends: Lent::new(&self.ends),
+            picks: Lent::new(&self.picks),
+            out: Lent::new(&self.out),
+        }
+    }
+
+    /// The paper's answer on these slices.
+    fn expect(&mut self, words: &[u64]) -> Result<PaperClass, Refusal> {
+        if self.out.len() < out_length::VERDICT {
+            return Err(TOO_SHORT);
+        }
+        let mut lent = paper::Lent {
+            local: &mut self.local,
+            marks: &mut self.marks,
+            configurations: &mut self.configurations,
+            trail: &mut self.trail,
+            plans: &mut self.plans,
+            ends: &mut self.ends,
+            picks: &mut self.picks,
+        };
+        paper::verdict(words, &mut lent)
+    }
+
+    fn lengths(&self) -> Vec<(&'static str, String)> {
+        vec![
+            ("local length", self.local.len().to_string()),
+            ("marks length", self.marks.len().to_string()),
+            ("configurations length", self.configurations.len().to_string()),
+            ("trail length", self.trail.len().to_string()),
+            ("plans length", self.plans.len().to_string()),
+            ("ends length", self.ends.len().to_string()),
+            ("picks length", self.picks.len().to_string()),
+            ("out at entry", list(&self.out)),
+        ]
+    }
+}
+
+impl LentSlices {
+    fn call(&mut self, words: &[u64], checked: &impl Interface) -> u64 {
+        checked.verdict(
+            words,
+            self.local.slice(),
+            self.marks.slice(),
+            self.configurations.slice(),
+            self.trail.slice(),
+            self.plans.slice(),
+            self.ends.slice(),
+            self.picks.slice(),
+            self.out.slice(),
+        )
+    }
+}
+
+pub fn verdict(random: &mut Random, checked: &impl Interface) -> Checked {
+    let words = task_words(random, 6);
+    let entry = slices(random, &words);
+    let mut expected = entry.clone();
+    let answer = expected.expect(&words);
+    let mut found = entry.lend();
+    let returned = found.call(&words, checked);
+
+    let mut comparison = Comparison::new("lawcheck_verdict");
+    comparison.slice("local", &expected.local, &found.local);
+    comparison.slice("marks", &expected.marks, &found.marks);
+    comparison.slice("configurations", &expected.configurations, &found.configurations);
+    let refusal = answer.as_ref().err().copied().unwrap_or(0);
+    let numbers = match &answer {
+        Err(_) => None,
+        Ok(PaperClass::Robust(count)) => Some([0, 0, *count as u64]),
+        Ok(PaperClass::Unsolvable(member)) => Some([1, *member as u64, 0]),
+        Ok(PaperClass::NotRobust(..)) => None,
+    };
+    if let Some(numbers) = numbers {
+        expected.out[..numbers.len()].copy_from_slice(&numbers);
+    }
+    if refusal == 0 {
+        comparison.guards("trail", &found.trail);
+    } else {
+        comparison.slice("trail", &expected.trail, &found.trail);
+    }
+    let class = match &answer {
+        Ok(PaperClass::NotRobust(listed, _)) => {
+            comparison.guards("plans", &found.plans);
+            comparison.guards("ends", &found.ends);
+            comparison.guards("picks", &found.picks);
+            let conflict = not_robust(&mut comparison, &words, *listed, returned, &found, checked);
+            // The rest of `out` stays as it was.
+            let given = &found.out.held()[..out_length::VERDICT];
+            expected.out[..out_length::VERDICT].copy_from_slice(given);
+            comparison.slice("out", &expected.out, &found.out);
+            Class::Answer(conflict.map_or(2, |outcome| outcome_numbers(outcome).0 + 1))
+        }
+        _ => {
+            comparison.answer((refusal, &expected.out), returned, &found.out);
+            comparison.slice("plans", &expected.plans, &found.plans);
+            comparison.slice("ends", &expected.ends, &found.ends);
+            comparison.slice("picks", &expected.picks, &found.picks);
+            crate::case::class(refusal, numbers.map_or(0, |numbers| numbers[0]))
+        }
+    };
+    let small = words.len() >= 3 && words[0] <= 3 && words[1] <= 3 && words[2] <= 4;
+    if refusal == 0 && returned == 0 && small && random.chance(25) {
+        comparison.brute = true;
+        if let Err(difference) = beside_brute_force(&words, &found) {
+            comparison.differ(difference);
+        }
+    }
+    if refusal == 0 && returned == 0 && found.out.held()[0] == 0 && random.chance(40) {
+        comparison.played = true;
+        if let Err(difference) = beside_played_runs(random, &words) {
+            comparison.differ(difference);
+        }
+    }
+    comparison.set_answers(
+        format!("{answer:?}"),
+        format!(
+            "returns {returned}, out {}, plans {}, ends {}, picks {}",
+            list(found.out.held()),
+            list(found.plans.held()),
+            list(found.ends.held()),
+            list(found.picks.held())
+        ),
+    );
+    comparison.close(class, || (Input::Task(words), entry.lengths()))
+}
+
+/// The outcome that a verdict's numbers state.
+fn stated(out: &[u64]) -> Option<Outcome> {
+    match *out {
+        [2, 0, ..] => Some(Outcome::Collision),
+        [3, 0, ..] => Some(Outcome::Deadlock),
+        [4, member, ..] => Some(Outcome::Missed(member as usize)),
+        _ => None,
+    }
+}
+
+/// The conflict that was found: as the paper asks, and replayed in both implementations.
+fn not_robust(
+    comparison: &mut Comparison,
+    words: &[u64],
+    listed: usize,
+    returned: u64,
+    found: &LentSlices,
+    checked: &impl Interface,
+) -> Option<Outcome> {
+    let out = found.out.held();
+    let (0, Some(outcome)) = (returned, stated(out)) else {
+        comparison.differ("the law is not robust".into());
+        return None;
+    };
+    let members = words[1] as usize;
+    let conflict = Conflict {
+        outcome,
+        done: out[2],
+        plans: found.plans.held(),
+        ends: found.ends.held(),
+        picks: found.picks.held(),
+    };
+    if let Err(difference) = conflict.check(words, members, listed) {
+        comparison.differ(format!("the conflict: {difference}"));
+        return Some(outcome);
+    }
+    if let Some((plans, ends, picks)) = conflict.replayed(members) {
+        let mut replayed = [0; out_length::JOINT_REPLAY];
+        let refusal = checked.joint_replay(words, plans, ends, picks, &mut replayed);
+        let (kind, member) = outcome_numbers(outcome);
+        if refusal != 0 || replayed[..3] != [kind, member, out[2]] {
+            let text = list(&replayed);
+            comparison.differ(format!("its own replay of the conflict: returns {refusal}, out {text}"));
+        }
+    }
+    Some(outcome)
+}
+
+/// Some runs of a law that was found robust, played to the finish: each has to be a success.
+fn beside_played_runs(random: &mut Random, words: &[u64]) -> Result<(), String> {
+    let Some(planner) = Planner::new(words) else {
+        return Ok(());
+    };
+    for _ in 0..3 {
+        let Some((bundle, picks)) = planner.finished(random) else {
+            return Ok(());
+        };
+        let Bundle { plans, ends } = bundle;
+        let replay = joint_replay(words, &plans, &ends, &picks);
+        if replay.as_ref().map(|replay| replay.outcome) != Ok(Outcome::Success) {
+            let lists = [list(&plans), list(&ends), list(&picks)];
+            return Err(format!("a run of plans, ends, picks {lists:?} ends as {replay:?}"));
+        }
+    }
+    Ok(())
+}
+
+/// Brute force over short plans against the class that was found.
+fn beside_brute_force(words: &[u64], found: &LentSlices) -> Result<(), String> {
+    let task = check(words).map_err(|refusal| format!("refused with {refusal}"))?;
+    let longest = if task.members() <= 2 { 4 } else { 3 };
+    let out = found.out.held();
+    if out[0] == 1 {
+        return match brute::plans(&task, out[1] as usize, longest).first() {
+            Some(plan) => Err(format!("brute force finds the plan {}", list(plan))),
+            None => Ok(()),
+        };
+    }
+    let Some(outcomes) = brute::outcomes(&task, longest) else {
+        return Ok(());
+    };
+    let fault = outcomes.iter().find(|&&outcome| outcome != Outcome::Success);
+    match (stated(out), fault) {
+        (None, Some(fault)) => Err(format!("brute force finds {fault:?}")),
+        (Some(outcome), _) => {
+            // A conflict with plans this short is among the runs that brute force goes through.
+            let ends = &found.ends.held()[..task.members()];
+            let begins = [&[0], ends].concat();
+            let short = ends.iter().zip(begins).all(|(end, begin)| end - begin <= longest as u64);
+            if short && !outcomes.contains(&outcome) {
+                return Err(format!("brute force does not find {outcome:?}"));
+            }
+            Ok(())
+        }
+        _ => Ok(()),
+    }
+}

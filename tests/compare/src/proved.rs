@@ -1,0 +1,66 @@
+//! The C interface as an implementation to check.
+
+use reference::interface::Interface;
+
+/// The library that is linked.
+pub struct Proved;
+
+impl Interface for Proved {
+    fn task(&self, task: &[u64]) -> u64 {
+        lawcheck::task(task)
+    }
+
+    fn step(&self, task: &[u64], action: u16, shared: &[u64], out: &mut [u64]) -> u64 {
+        lawcheck::step(task, action, shared, out)
+    }
+
+    fn solo_replay(&self, task: &[u64], member: u8, plan: &[u16], out: &mut [u64]) -> u64 {
+        lawcheck::solo_replay(task, member, plan, out)
+    }
+
+    fn solo_search(
+        &self,
+        task: &[u64],
+        member: u8,
+        table: &mut [u64],
+        marks: &mut [u8],
+        out: &mut [u64],
+    ) -> u64 {
+        lawcheck::solo_search(task, member, table, marks, out)
+    }
+
+    fn joint_replay(&self, task: &[u64], plans: &[u16], ends: &[u64], picks: &[u8], out: &mut [u64]) -> u64 {
+        lawcheck::joint_replay(task, plans, ends, picks, out)
+    }
+
+    fn pick(
+        &self,
+        task: &[u64],
+        plans: &[u16],
+        ends: &[u64],
+        run: &mut [u64],
+        member: u8,
+        out: &mut [u64],
+    ) -> u64 {
+        lawcheck::pick(task, plans, ends, run, member, out)
+    }
+
+    fn verdict(
+        &self,
+        task: &[u64],
+        local: &mut [u64],
+        marks: &mut [u8],
+        configurations: &mut [u64],
+        trail: &mut [u64],
+        plans: &mut [u16],
+        ends: &mut [u64],
+        picks: &mut [u8],
+        out: &mut [u64],
+    ) -> u64 {
+        lawcheck::verdict(task, local, marks, configurations, trail, plans, ends, picks, out)
+    }
+
+    fn read(&self, text: &[u8], words: &mut [u64], out: &mut [u64]) -> u64 {
+        lawcheck::read(text, words, out)
+    }
+}

@@ -1,0 +1,274 @@
+//! The comparison finds broken implementations: the fast twin with one thing wrong in each.
+
+use compare::driver::{run, Options};
+use reference::fast::Fast;
+use reference::interface::{out_length, Interface};
+
+/// What is wrong.
+#[derive(Clone, Copy, Debug, PartialEq)]
+enum Broken {
+    TaskRefusesAll,
+    TaskRangeBeforeLength,
+    TaskWaitUnchecked,
+    StepDeletesAfterAdding,
+    StepCollidesWhereItWaits,
+    StepLongCopyTaken,
+    OutAfterRefusal,
+    OutBeyondTheAnswer,
+    SoloIndexFromOne,
+    SoloBreakBeforeBadEntry,
+    SearchMarksUncleared,
+    SearchNineUncleared,
+    SearchFullTableRefused,
+    SearchAllLive,
+    JointCountsTheCollision,
+    JointAlwaysOpen,
+    JointPicksAfterTheEndTaken,
+    JointMissedHighest,
+    PickMovesNothing,
+    PickCollidedNotNoted,
+    PickCollidedTakenAsOne,
+    PickAbsentPlacesCleared,
+    VerdictRobust,
+    VerdictCountOff,
+    VerdictNineFirst,
+    VerdictNineTrailLeft,
+    VerdictUnsolvableHighest,
+    VerdictConflictDirty,
+    VerdictConflictNumberOff,
+    VerdictTablesOfUnsolvableEmpty,
+    ReadWordsLeft,
+    ReadLeadingZero,
+    ReadLongWordsUncleared,
+    ReadLineFeedAlone,
+}
+use Broken::*;
+
+impl Broken {
+    /// Writes to `out` where that is wrong.
+    fn refused(self, refusal: u64, out: &mut [u64]) -> u64 {
+        match (self, refusal) {
+            (OutAfterRefusal, 1..) if !out.is_empty() => out[0] = refusal,
+            (OutBeyondTheAnswer, 0) => *out.last_mut().expect("an answer has numbers") = 0,
+            _ => {}
+        }
+        refusal
+    }
+}
+
+impl Interface for Broken {
+    fn task(&self, task: &[u64]) -> u64 {
+        match (self, Fast.task(task)) {
+            (TaskRefusesAll, 0) => 2,
+            (TaskRangeBeforeLength, 1) if task.len() < 5 => 2,
+            (TaskWaitUnchecked, 6) => 0,
+            (_, refusal) => refusal,
+        }
+    }
+
+    fn step(&self, task: &[u64], action: u16, shared: &[u64], out: &mut [u64]) -> u64 {
+        if *self == StepLongCopyTaken && shared.len() > 1 {
+            return Fast.step(task, action, &shared[..1], out);
+        }
+        let refusal = Fast.step(task, action, shared, out);
+        if refusal == 0 {
+            match (self, out[0]) {
+                (StepDeletesAfterAdding, 0) => {
+                    let row = 5 * (1 + task[1] as usize + action as usize);
+                    out[1] &= !task[row + 4];
+                }
+                (StepCollidesWhereItWaits, 1) => out[0] = 2,
+                _ => {}
+            }
+        }
+        self.refused(refusal, out)
+    }
+
+    fn solo_replay(&self, task: &[u64], member: u8, plan: &[u16], out: &mut [u64]) -> u64 {
+        let refusal = Fast.solo_replay(task, member, plan, out);
+        if *self == SoloIndexFromOne && refusal == 0 && out[0] == 1 {
+            out[1] += 1;
+        }
+        if *self == SoloBreakBeforeBadEntry && (refusal == 7 || refusal == 10) {
+            for length in 0..plan.len() {
+                if Fast.solo_replay(task, member, &plan[..length], out) == 0 && out[0] == 1 {
+                    return 0;
+                }
+            }
+        }
+        self.refused(refusal, out)
+    }
+
+    fn solo_search(
+        &self,
+        task: &[u64],
+        member: u8,
+        table: &mut [u64],
+        marks: &mut [u8],
+        out: &mut [u64],
+    ) -> u64 {
+        let (last, first) = (marks.last().copied(), table.first().copied());
+        let refusal = Fast.solo_search(task, member, table, marks, out);
+        match (self, refusal) {
+            (SearchMarksUncleared, 0) if marks.len() > table.len() => {
+                *marks.last_mut().expect("longer than the table") = last.unwrap_or(0);
+            }
+            (SearchNineUncleared, 9) if !table.is_empty() => table[0] = first.unwrap_or(0),
+            (SearchFullTableRefused, 0) if out[0] == table.len() as u64 => {
+                table.fill(0);
+                marks.fill(0);
+                return 9;
+            }
+            (SearchAllLive, 0) => marks[..out[0] as usize].fill(1),
+            _ => {}
+        }
+        self.refused(refusal, out)
+    }
+
+    fn joint_replay(&self, task: &[u64], plans: &[u16], ends: &[u64], picks: &[u8], out: &mut [u64]) -> u64 {
+        let refusal = Fast.joint_replay(task, plans, ends, picks, out);
+        match (self, refusal) {
+            (JointCountsTheCollision, 0) if out[0] == 1 => out[2] += 1,
+            (JointAlwaysOpen, 0) => out[0] = 4,
+            (JointPicksAfterTheEndTaken, 13) => {
+                let length = picks.len() - 1;
+                return Fast.joint_replay(task, plans, ends, &picks[..length], out);
+            }
+            (JointMissedHighest, 0) if out[0] == 3 => {
+                let missed = |&member: &usize| task[5 * (1 + member) + 1] & !out[3] != 0;
+                out[1] = (0..task[1] as usize).rfind(missed).unwrap_or(0) as u64;
+            }
+            _ => {}
+        }
+        self.refused(refusal, out)
+    }
+
+    fn pick(
+        &self,
+        task: &[u64],
+        plans: &[u16],
+        ends: &[u64],
+        run: &mut [u64],
+        member: u8,
+        out: &mut [u64],
+    ) -> u64 {
+        let before = run.to_vec();
+        if *self == PickCollidedTakenAsOne && run.first().is_some_and(|&word| word > 1) {
+            run[0] = 0;
+        }
+        let refusal = Fast.pick(task, plans, ends, run, member, out);
+        match (self, refusal) {
+            (PickMovesNothing, 0) if out[0] == 0 => run.copy_from_slice(&before),
+            (PickCollidedNotNoted, 0) => run[0] = 0,
+            (PickAbsentPlacesCleared, 0) => run[1 + task[1] as usize..9].fill(0),
+            (PickCollidedTakenAsOne, 1..) => run.copy_from_slice(&before),
+            _ => {}
+        }
+        self.refused(refusal, out)
+    }
+
+    fn verdict(
+        &self,
+        task: &[u64],
+        local: &mut [u64],
+        marks: &mut [u8],
+        configurations: &mut [u64],
+        trail: &mut [u64],
+        plans: &mut [u16],
+        ends: &mut [u64],
+        picks: &mut [u8],
+        out: &mut [u64],
+    ) -> u64 {
+        let first = trail.first().copied();
+        let refusal = Fast.verdict(task, local, marks, configurations, trail, plans, ends, picks, out);
+        match (self, refusal) {
+            (VerdictRobust, 0) if out[0] > 1 => {
+                out[..out_length::VERDICT].copy_from_slice(&[0, 0, 1]);
+                plans.fill(0);
+                ends.fill(0);
+                picks.fill(0);
+            }
+            (VerdictCountOff, 0) if out[0] == 0 => out[2] += 1,
+            (VerdictNineFirst, 0) if configurations.len() < 4 => {
+                for slice in [local, configurations, trail, ends] {
+                    slice.fill(0);
+                }
+                marks.fill(0);
+                plans.fill(0);
+                picks.fill(0);
+                return 9;
+            }
+            (VerdictNineTrailLeft, 9) if !trail.is_empty() => trail[0] = first.unwrap_or(0),
+            (VerdictUnsolvableHighest, 0) if out[0] == 1 => out[1] = task[1] - 1,
+            (VerdictConflictDirty, 0) if out[0] > 1 => {
+                *picks.last_mut().expect("a conflict's room") = 1;
+            }
+            (VerdictConflictNumberOff, 0) if out[0] > 1 && out[2] > 0 => out[2] -= 1,
+            (VerdictTablesOfUnsolvableEmpty, 0) if out[0] == 1 => local.fill(0),
+            _ => {}
+        }
+        self.refused(refusal, out)
+    }
+
+    fn read(&self, text: &[u8], slice: &mut [u64], out: &mut [u64]) -> u64 {
+        let before = slice.to_vec();
+        let refusal = Fast.read(text, slice, out);
+        match (self, refusal) {
+            (ReadWordsLeft, 15) => slice.copy_from_slice(&before),
+            (ReadLeadingZero, 15) => {
+                let plain = String::from_utf8_lossy(text).replace(",00,", ",0,").replace(",01,", ",1,");
+                return Fast.read(plain.as_bytes(), slice, out);
+            }
+            (ReadLongWordsUncleared, 0) => slice[1325..].copy_from_slice(&before[1325..]),
+            (ReadLineFeedAlone, 15) => {
+                let plain = String::from_utf8_lossy(text).replace("\r\n", "\n").replace('\n', "\r\n");
+                return Fast.read(plain.as_bytes(), slice, out);
+            }
+            _ => {}
+        }
+        self.refused(refusal, out)
+    }
+}
+
+#[test]
+fn every_broken_implementation_is_found() {
+    let all = [
+        TaskRefusesAll,
+        TaskRangeBeforeLength,
+        TaskWaitUnchecked,
+        StepDeletesAfterAdding,
+        StepCollidesWhereItWaits,
+        StepLongCopyTaken,
+        OutAfterRefusal,
+        OutBeyondTheAnswer,
+        SoloIndexFromOne,
+        SoloBreakBeforeBadEntry,
+        SearchMarksUncleared,
+        SearchNineUncleared,
+        SearchFullTableRefused,
+        SearchAllLive,
+        JointCountsTheCollision,
+        JointAlwaysOpen,
+        JointPicksAfterTheEndTaken,
+        JointMissedHighest,
+        PickMovesNothing,
+        PickCollidedNotNoted,
+        PickCollidedTakenAsOne,
+        PickAbsentPlacesCleared,
+        VerdictRobust,
+        VerdictCountOff,
+        VerdictNineFirst,
+        VerdictNineTrailLeft,
+        VerdictUnsolvableHighest,
+        VerdictConflictDirty,
+        VerdictConflictNumberOff,
+        VerdictTablesOfUnsolvableEmpty,
+        ReadWordsLeft,
+        ReadLeadingZero,
+        ReadLongWordsUncleared,
+        ReadLineFeedAlone,
+    ];
+    let options = Options { seed: 11, cases: 100_000, threads: 2, stop: true };
+    let unnoticed: Vec<Broken> = all.into_iter().filter(|broken| run(broken, options).failed == 0).collect();
+    assert_eq!(unnoticed, []);
+}

@@ -1,0 +1,257 @@
+//! The comparison finds implementations that look for refusals in another order than the written one: the fast
+//! twin with one pair exchanged in each.
+
+use compare::driver::{run, Options};
+use reference::fast::Fast;
+use reference::interface::Interface;
+
+/// The pair that is exchanged: the second stands before the first in the paper.
+#[derive(Clone, Copy, Debug, PartialEq)]
+enum Exchanged {
+    LengthThenRange,
+    InitialThenLength,
+    GoalThenInitial,
+    GoalBitThenGoalRow,
+    ActionBitThenOwner,
+    WaitThenActionBit,
+    ActionThenTask,
+    FactThenAction,
+    EntryThenMember,
+    OthersThenAction,
+    MarksThenMember,
+    FullThenMarks,
+    EntryThenEnds,
+    EntryThenEarlierUnsolved,
+    PickThenPlans,
+    ImpossibleThenPickedMember,
+    PlaceThenShared,
+    SharedThenPlans,
+    MemberThenPlace,
+    ImpossibleThenMember,
+    ImpossibleThenPlace,
+    FullThenSlices,
+    UnsolvableThenFull,
+    TextThenWords,
+    TaskThenWords,
+}
+use Exchanged::*;
+
+const ALL: [Exchanged; 25] = [
+    LengthThenRange,
+    InitialThenLength,
+    GoalThenInitial,
+    GoalBitThenGoalRow,
+    ActionBitThenOwner,
+    WaitThenActionBit,
+    ActionThenTask,
+    FactThenAction,
+    EntryThenMember,
+    OthersThenAction,
+    MarksThenMember,
+    FullThenMarks,
+    EntryThenEnds,
+    EntryThenEarlierUnsolved,
+    PickThenPlans,
+    ImpossibleThenPickedMember,
+    PlaceThenShared,
+    SharedThenPlans,
+    MemberThenPlace,
+    ImpossibleThenMember,
+    ImpossibleThenPlace,
+    FullThenSlices,
+    UnsolvableThenFull,
+    TextThenWords,
+    TaskThenWords,
+];
+
+/// The first row that the task check refuses.
+fn refused_row(task: &[u64]) -> Option<&[u64]> {
+    let (members, rows) = (*task.get(1)? as usize, task.chunks(5).skip(1));
+    let known = u64::MAX >> (64 - task[0].clamp(1, 64));
+    rows.enumerate().find_map(|(row, words)| {
+        let bits = |words: &[u64]| words.iter().any(|&mask| mask & !known != 0);
+        let bad = if row < members {
+            words[0] != row as u64 || words[2..] != [0; 3] || bits(&words[1..2])
+        } else {
+            words[0] >= members as u64 || bits(&words[1..]) || words[2] & !words[1] != 0
+        };
+        bad.then_some(words)
+    })
+}
+
+fn exceeds(task: &[u64], word: u64) -> bool {
+    word & !(u64::MAX >> (64 - task[0].clamp(1, 64))) != 0
+}
+
+impl Interface for Exchanged {
+    fn task(&self, task: &[u64]) -> u64 {
+        let refusal = Fast.task(task);
+        let row = if (3..=6).contains(&refusal) { refused_row(task) } else { None };
+        match (self, refusal, row) {
+            (LengthThenRange, 2, _) => {
+                let rows = task[1].saturating_add(task[2]).saturating_add(1);
+                if rows.checked_mul(5) != Some(task.len() as u64) {
+                    1
+                } else {
+                    2
+                }
+            }
+            (InitialThenLength, 1, _) if task.len() >= 5 && exceeds(task, task[3]) => 4,
+            (GoalThenInitial, 4, _) if exceeds(task, task[3]) && task[5] != 0 => 3,
+            (GoalBitThenGoalRow, 3, Some(row)) if exceeds(task, row[1]) => 4,
+            (ActionBitThenOwner, 5, Some(row)) if row[1..].iter().any(|&mask| exceeds(task, mask)) => 4,
+            (WaitThenActionBit, 4, Some(row)) if !exceeds(task, task[3]) && row[2] & !row[1] != 0 => 6,
+            _ => refusal,
+        }
+    }
+
+    fn step(&self, task: &[u64], action: u16, shared: &[u64], out: &mut [u64]) -> u64 {
+        match (self, Fast.step(task, action, shared, out)) {
+            (ActionThenTask, 3..=6) if Fast.task(task) != 0 && action as u64 >= task[2] => 7,
+            (FactThenAction, 7) if exceeds(task, shared[0]) => 4,
+            (_, refusal) => refusal,
+        }
+    }
+
+    fn solo_replay(&self, task: &[u64], member: u8, plan: &[u16], out: &mut [u64]) -> u64 {
+        let unknown = |&entry: &u16| entry as u64 >= task[2];
+        match (self, Fast.solo_replay(task, member, plan, out)) {
+            (EntryThenMember, 8) if plan.iter().any(unknown) => 7,
+            (OthersThenAction, 7) => {
+                let others = |&entry: &u16| {
+                    let owner = task.get(5 * (1 + task[1] as usize + entry as usize));
+                    owner.is_some_and(|&owner| owner != member as u64)
+                };
+                if plan.iter().any(others) {
+                    10
+                } else {
+                    7
+                }
+            }
+            (_, refusal) => refusal,
+        }
+    }
+
+    fn solo_search(
+        &self,
+        task: &[u64],
+        member: u8,
+        table: &mut [u64],
+        marks: &mut [u8],
+        out: &mut [u64],
+    ) -> u64 {
+        let lengths = (table.len(), marks.len());
+        match (self, Fast.solo_search(task, member, table, marks, out)) {
+            (MarksThenMember, 8) if lengths.1 < lengths.0 => 14,
+            (FullThenMarks, 14) if lengths.1 < lengths.0 => {
+                let (mut room, mut live) = (vec![0; lengths.0], vec![0; lengths.0]);
+                match Fast.solo_search(task, member, &mut room, &mut live, &mut [0; 2]) {
+                    9 => 9,
+                    _ => 14,
+                }
+            }
+            (_, refusal) => refusal,
+        }
+    }
+
+    fn joint_replay(&self, task: &[u64], plans: &[u16], ends: &[u64], picks: &[u8], out: &mut [u64]) -> u64 {
+        let unknown = |&entry: &u16| entry as u64 >= task[2];
+        let absent = |&member: &u8| member as u64 >= task[1];
+        match (self, Fast.joint_replay(task, plans, ends, picks, out)) {
+            (EntryThenEnds, 11) if plans.iter().any(unknown) => 7,
+            (EntryThenEarlierUnsolved, 12) if plans.iter().any(unknown) => 7,
+            (PickThenPlans, 7 | 10..=12) if picks.iter().any(absent) => 8,
+            (ImpossibleThenPickedMember, 8) => {
+                let before = picks.iter().position(absent).unwrap_or(0);
+                let mut earlier = [0; 4];
+                Fast.joint_replay(task, plans, ends, &picks[..before], &mut earlier);
+                if earlier[0] == 1 {
+                    13
+                } else {
+                    8
+                }
+            }
+            (_, refusal) => refusal,
+        }
+    }
+
+    fn pick(
+        &self,
+        task: &[u64],
+        plans: &[u16],
+        ends: &[u64],
+        run: &mut [u64],
+        member: u8,
+        out: &mut [u64],
+    ) -> u64 {
+        let refusal = Fast.pick(task, plans, ends, run, member, out);
+        if refusal == 0 || Fast.task(task) != 0 || run.len() < 10 {
+            return refusal;
+        }
+        // What would be refused if one fault were not there.
+        let without = |place: usize, word: u64, member: u8| {
+            let mut run = run.to_vec();
+            run[place] = word;
+            Fast.pick(task, plans, ends, &mut run, member, &mut [0])
+        };
+        match (self, refusal) {
+            (PlaceThenShared, 4) if without(9, 0, member) == 11 => 11,
+            (SharedThenPlans, 7 | 10 | 12) if exceeds(task, run[9]) => 4,
+            (MemberThenPlace, 11) if member as u64 >= task[1] => 8,
+            (ImpossibleThenMember, 8) if run[0] != 0 => 13,
+            (ImpossibleThenPlace, 11) if run[0] != 0 => 13,
+            _ => refusal,
+        }
+    }
+
+    fn verdict(
+        &self,
+        task: &[u64],
+        local: &mut [u64],
+        marks: &mut [u8],
+        configurations: &mut [u64],
+        trail: &mut [u64],
+        plans: &mut [u16],
+        ends: &mut [u64],
+        picks: &mut [u8],
+        out: &mut [u64],
+    ) -> u64 {
+        let lengths = (local.len(), configurations.len());
+        let refusal = Fast.verdict(task, local, marks, configurations, trail, plans, ends, picks, out);
+        if Fast.task(task) != 0 {
+            return refusal;
+        }
+        let members = task[1] as usize;
+        let alone = |member: usize, rows: usize| {
+            let (mut table, mut marks, mut out) = (vec![0; rows], vec![0; rows], [0; 2]);
+            let refusal = Fast.solo_search(task, member as u8, &mut table, &mut marks, &mut out);
+            (refusal, out[1])
+        };
+        let rows = lengths.0 / members;
+        match (self, refusal) {
+            (FullThenSlices, 14) if (0..members).any(|member| alone(member, rows).0 == 9) => 9,
+            (UnsolvableThenFull, 9) if (0..members).any(|member| alone(member, rows) == (0, 0)) => {
+                out[..3].copy_from_slice(&[1, 0, 0]);
+                0
+            }
+            _ => refusal,
+        }
+    }
+
+    fn read(&self, text: &[u8], words: &mut [u64], out: &mut [u64]) -> u64 {
+        let alone = || Fast.read(text, &mut [0; 1325], &mut [0]);
+        match (self, Fast.read(text, words, out)) {
+            (TextThenWords, 14) if alone() == 15 => 15,
+            (TaskThenWords, 14) if (1..=6).contains(&alone()) => alone(),
+            (_, refusal) => refusal,
+        }
+    }
+}
+
+#[test]
+fn every_exchanged_pair_is_found() {
+    let options = Options { seed: 13, cases: 100_000, threads: 2, stop: true };
+    let unnoticed: Vec<Exchanged> =
+        ALL.into_iter().filter(|exchanged| run(exchanged, options).failed == 0).collect();
+    assert_eq!(unnoticed, []);
+}

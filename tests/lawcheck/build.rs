@@ -1,0 +1,34 @@
+//! Links the static library of the C interface: `target/staticlib/libcapi.a`, or the archive that
+//! LAWCHECK_LIBRARY names. With the feature `mock` nothing is linked.
+
+use std::env;
+use std::path::{Path, PathBuf};
+use std::process::exit;
+
+fn main() {
+    println!("cargo::rerun-if-env-changed=LAWCHECK_LIBRARY");
+    if env::var_os("CARGO_FEATURE_MOCK").is_some() {
+        return;
+    }
+    let archive = match env::var_os("LAWCHECK_LIBRARY") {
+        Some(path) => PathBuf::from(path),
+        None => {
+            let package = env::var_os("CARGO_MANIFEST_DIR").expect("cargo names the package's folder");
+            Path::new(&package).join("../../target/staticlib/libcapi.a")
+        }
+    };
+    println!("cargo::rerun-if-changed={}", archive.display());
+    let Ok(archive) = archive.canonicalize() else {
+        eprintln!("error: the static library {} is missing.", archive.display());
+        eprintln!("Build it first, name it in LAWCHECK_LIBRARY, or use --features mock.");
+        exit(1);
+    };
+    let folder = archive.parent().expect("a file stands in a folder");
+    let name = archive.file_stem().and_then(|stem| stem.to_str()).and_then(|stem| stem.strip_prefix("lib"));
+    let Some(name) = name else {
+        eprintln!("error: {} is not named like libNAME.a.", archive.display());
+        exit(1);
+    };
+    println!("cargo::rustc-link-search=native={}", folder.display());
+    println!("cargo::rustc-link-lib=static={name}");
+}

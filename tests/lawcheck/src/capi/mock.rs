@@ -1,0 +1,168 @@
+//! The same functions over the fast twin. As a static library they stand in for the proved one.
+#![allow(clippy::missing_safety_doc, clippy::too_many_arguments)]
+
+use reference::fast::Fast;
+use reference::interface::Interface;
+use std::slice::{from_raw_parts, from_raw_parts_mut};
+
+/// A slice that is lent to be read. An empty one may come with any pointer.
+unsafe fn lent<'a, T>(pointer: *const T, length: usize) -> &'a [T] {
+    if length == 0 {
+        &[]
+    } else {
+        from_raw_parts(pointer, length)
+    }
+}
+
+/// A slice that is lent to be written.
+unsafe fn lent_mut<'a, T>(pointer: *mut T, length: usize) -> &'a mut [T] {
+    if length == 0 {
+        &mut []
+    } else {
+        from_raw_parts_mut(pointer, length)
+    }
+}
+
+#[no_mangle]
+pub unsafe extern "C" fn lawcheck_task(task: *const u64, task_len: usize) -> u64 {
+    Fast.task(lent(task, task_len))
+}
+
+#[no_mangle]
+pub unsafe extern "C" fn lawcheck_step(
+    task: *const u64,
+    task_len: usize,
+    action: u16,
+    shared: *const u64,
+    shared_len: usize,
+    out: *mut u64,
+    out_len: usize,
+) -> u64 {
+    Fast.step(lent(task, task_len), action, lent(shared, shared_len), lent_mut(out, out_len))
+}
+
+#[no_mangle]
+pub unsafe extern "C" fn lawcheck_solo_replay(
+    task: *const u64,
+    task_len: usize,
+    member: u8,
+    plan: *const u16,
+    plan_len: usize,
+    out: *mut u64,
+    out_len: usize,
+) -> u64 {
+    Fast.solo_replay(lent(task, task_len), member, lent(plan, plan_len), lent_mut(out, out_len))
+}
+
+#[no_mangle]
+pub unsafe extern "C" fn lawcheck_solo_search(
+    task: *const u64,
+    task_len: usize,
+    member: u8,
+    table: *mut u64,
+    table_len: usize,
+    marks: *mut u8,
+    marks_len: usize,
+    out: *mut u64,
+    out_len: usize,
+) -> u64 {
+    Fast.solo_search(
+        lent(task, task_len),
+        member,
+        lent_mut(table, table_len),
+        lent_mut(marks, marks_len),
+        lent_mut(out, out_len),
+    )
+}
+
+#[no_mangle]
+pub unsafe extern "C" fn lawcheck_joint_replay(
+    task: *const u64,
+    task_len: usize,
+    plans: *const u16,
+    plans_len: usize,
+    ends: *const u64,
+    ends_len: usize,
+    picks: *const u8,
+    picks_len: usize,
+    out: *mut u64,
+    out_len: usize,
+) -> u64 {
+    Fast.joint_replay(
+        lent(task, task_len),
+        lent(plans, plans_len),
+        lent(ends, ends_len),
+        lent(picks, picks_len),
+        lent_mut(out, out_len),
+    )
+}
+
+#[no_mangle]
+pub unsafe extern "C" fn lawcheck_pick(
+    task: *const u64,
+    task_len: usize,
+    plans: *const u16,
+    plans_len: usize,
+    ends: *const u64,
+    ends_len: usize,
+    run: *mut u64,
+    run_len: usize,
+    member: u8,
+    out: *mut u64,
+    out_len: usize,
+) -> u64 {
+    Fast.pick(
+        lent(task, task_len),
+        lent(plans, plans_len),
+        lent(ends, ends_len),
+        lent_mut(run, run_len),
+        member,
+        lent_mut(out, out_len),
+    )
+}
+
+#[no_mangle]
+pub unsafe extern "C" fn lawcheck_verdict(
+    task: *const u64,
+    task_len: usize,
+    local: *mut u64,
+    local_len: usize,
+    marks: *mut u8,
+    marks_len: usize,
+    configurations: *mut u64,
+    configurations_len: usize,
+    trail: *mut u64,
+    trail_len: usize,
+    plans: *mut u16,
+    plans_len: usize,
+    ends: *mut u64,
+    ends_len: usize,
+    picks: *mut u8,
+    picks_len: usize,
+    out: *mut u64,
+    out_len: usize,
+) -> u64 {
+    Fast.verdict(
+        lent(task, task_len),
+        lent_mut(local, local_len),
+        lent_mut(marks, marks_len),
+        lent_mut(configurations, configurations_len),
+        lent_mut(trail, trail_len),
+        lent_mut(plans, plans_len),
+        lent_mut(ends, ends_len),
+        lent_mut(picks, picks_len),
+        lent_mut(out, out_len),
+    )
+}
+
+#[no_mangle]
+pub unsafe extern "C" fn lawcheck_read(
+    text: *const u8,
+    text_len: usize,
+    words: *mut u64,
+    words_len: usize,
+    out: *mut u64,
+    out_len: usize,
+) -> u64 {
+    Fast.read(lent(text, text_len), lent_mut(words, words_len), lent_mut(out, out_len))
+}

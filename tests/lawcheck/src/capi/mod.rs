@@ -1,0 +1,144 @@
+//! The foreign declarations, and one safe function over each. A slice passes as pointer and length.
+
+#[cfg(not(feature = "mock"))]
+mod foreign;
+#[cfg(feature = "mock")]
+#[path = "mock.rs"]
+mod foreign;
+
+use foreign::*;
+
+/// The task check.
+pub fn task(task: &[u64]) -> u64 {
+    unsafe { lawcheck_task(task.as_ptr(), task.len()) }
+}
+
+/// An action at a shared copy (one word). `out`: 0 go, 1 wait, 2 collision; the new shared copy.
+pub fn step(task: &[u64], action: u16, shared: &[u64], out: &mut [u64]) -> u64 {
+    unsafe {
+        lawcheck_step(
+            task.as_ptr(),
+            task.len(),
+            action,
+            shared.as_ptr(),
+            shared.len(),
+            out.as_mut_ptr(),
+            out.len(),
+        )
+    }
+}
+
+/// A plan on its member's local copy alone. `out`: 0 solves, 1 breaks, 2 short; the index.
+pub fn solo_replay(task: &[u64], member: u8, plan: &[u16], out: &mut [u64]) -> u64 {
+    unsafe {
+        lawcheck_solo_replay(
+            task.as_ptr(),
+            task.len(),
+            member,
+            plan.as_ptr(),
+            plan.len(),
+            out.as_mut_ptr(),
+            out.len(),
+        )
+    }
+}
+
+/// A member's reachable local copies and live marks. `out`: the count; 1 where I is live.
+pub fn solo_search(task: &[u64], member: u8, table: &mut [u64], marks: &mut [u8], out: &mut [u64]) -> u64 {
+    unsafe {
+        lawcheck_solo_search(
+            task.as_ptr(),
+            task.len(),
+            member,
+            table.as_mut_ptr(),
+            table.len(),
+            marks.as_mut_ptr(),
+            marks.len(),
+            out.as_mut_ptr(),
+            out.len(),
+        )
+    }
+}
+
+/// A list of picks from the start. `out`: 0 success, 1 collision, 2 deadlock, 3 missed, 4 open; the member;
+/// the picks done; the shared copy.
+pub fn joint_replay(task: &[u64], plans: &[u16], ends: &[u64], picks: &[u8], out: &mut [u64]) -> u64 {
+    unsafe {
+        lawcheck_joint_replay(
+            task.as_ptr(),
+            task.len(),
+            plans.as_ptr(),
+            plans.len(),
+            ends.as_ptr(),
+            ends.len(),
+            picks.as_ptr(),
+            picks.len(),
+            out.as_mut_ptr(),
+            out.len(),
+        )
+    }
+}
+
+/// A pick on a run of ten words: collided, eight places, the shared copy. `out`: 0 go, 1 collision.
+pub fn pick(task: &[u64], plans: &[u16], ends: &[u64], run: &mut [u64], member: u8, out: &mut [u64]) -> u64 {
+    unsafe {
+        lawcheck_pick(
+            task.as_ptr(),
+            task.len(),
+            plans.as_ptr(),
+            plans.len(),
+            ends.as_ptr(),
+            ends.len(),
+            run.as_mut_ptr(),
+            run.len(),
+            member,
+            out.as_mut_ptr(),
+            out.len(),
+        )
+    }
+}
+
+/// The verdict. `out`: 0 robust, 1 unsolvable, 2 collision, 3 deadlock, 4 missed; the member; the count of
+/// configurations or the picks done.
+#[allow(clippy::too_many_arguments)]
+pub fn verdict(
+    task: &[u64],
+    local: &mut [u64],
+    marks: &mut [u8],
+    configurations: &mut [u64],
+    trail: &mut [u64],
+    plans: &mut [u16],
+    ends: &mut [u64],
+    picks: &mut [u8],
+    out: &mut [u64],
+) -> u64 {
+    unsafe {
+        lawcheck_verdict(
+            task.as_ptr(),
+            task.len(),
+            local.as_mut_ptr(),
+            local.len(),
+            marks.as_mut_ptr(),
+            marks.len(),
+            configurations.as_mut_ptr(),
+            configurations.len(),
+            trail.as_mut_ptr(),
+            trail.len(),
+            plans.as_mut_ptr(),
+            plans.len(),
+            ends.as_mut_ptr(),
+            ends.len(),
+            picks.as_mut_ptr(),
+            picks.len(),
+            out.as_mut_ptr(),
+            out.len(),
+        )
+    }
+}
+
+/// A text's words. `out`: the number of records.
+pub fn read(text: &[u8], words: &mut [u64], out: &mut [u64]) -> u64 {
+    unsafe {
+        lawcheck_read(text.as_ptr(), text.len(), words.as_mut_ptr(), words.len(), out.as_mut_ptr(), out.len())
+    }
+}

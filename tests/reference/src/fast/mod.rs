@@ -1,0 +1,220 @@
+//! The fast twin: masks, hash maps and early exits, as a Rust programmer would write it. It serves the
+//! benchmarks and stands in for the proved library where that is not built.
+
+mod run;
+mod solo;
+mod text;
+mod verdict;
+
+pub use run::{outcome, Outcome, Plans};
+pub use solo::{copies, Copies, DEAD};
+pub use text::read_words;
+pub use verdict::count_configurations;
+
+use crate::interface::{give, out_length, Interface, TOO_SHORT};
+
+/// An action of a checked task.
+#[derive(Clone, Copy, Debug)]
+pub struct Action {
+    pub member: u8,
+    pub pre: u64,
+    pub wait: u64,
+    pub add: u64,
+    pub del: u64,
+}
+
+impl Action {
+    /// The state after the action.
+    pub fn apply(&self, state: u64) -> u64 {
+        (state & !self.del) | self.add
+    }
+
+    /// Every precondition holds.
+    pub fn applicable(&self, state: u64) -> bool {
+        self.pre & !state == 0
+    }
+
+    /// A precondition that is waited for does not hold.
+    pub fn waits(&self, shared: u64) -> bool {
+        self.wait & !shared != 0
+    }
+}
+
+/// A checked task.
+#[derive(Clone, Debug)]
+pub struct Task {
+    pub known: u64,
+    pub initial: u64,
+    pub goals: Vec<u64>,
+    pub actions: Vec<Action>,
+    /// The numbers of each member's actions.
+    pub own: Vec<Vec<u16>>,
+}
+
+impl Task {
+    /// The task check.
+    pub fn check(words: &[u64]) -> Result<Task, u64> {
+        let &[facts, members, actions, initial, zero, ..] = words else {
+            return Err(1);
+        };
+        if !(1..=64).contains(&facts) || !(1..=8).contains(&members) || actions > 256 || zero != 0 {
+            return Err(2);
+        }
+        if words.len() as u64 != 5 * (1 + members + actions) {
+            return Err(1);
+        }
+        let known = u64::MAX >> (64 - facts);
+        if initial & !known != 0 {
+            return Err(4);
+        }
+        let mut task = Task {
+            known,
+            initial,
+            goals: Vec::with_capacity(members as usize),
+            actions: Vec::with_capacity(actions as usize),
+            own: vec![Vec::new(); members as usize],
+        };
+        for (row, words) in words.chunks_exact(5).skip(1).enumerate() {
+            let &[first, pre, wait, add, del] = words else { unreachable!() };
+            if (row as u64) < members {
+                if first != row as u64 || wait | add | del != 0 {
+                    return Err(3);
+                }
+                if pre & !known != 0 {
+                    return Err(4);
+                }
+                task.goals.push(pre);
+            } else {
+                if first >= members {
+                    return Err(5);
+                }
+                if (pre | wait | add | del) & !known != 0 {
+                    return Err(4);
+                }
+                if wait & !pre != 0 {
+                    return Err(6);
+                }
+                task.own[first as usize].push(task.actions.len() as u16);
+                task.actions.push(Action { member: first as u8, pre, wait, add, del });
+            }
+        }
+        Ok(task)
+    }
+
+    /// The number of members.
+    pub fn members(&self) -> usize {
+        self.goals.len()
+    }
+
+    /// Whether a member's goal holds.
+    pub fn reached(&self, member: usize, state: u64) -> bool {
+        self.goals[member] & !state == 0
+    }
+}
+
+/// The fast twin behind the C interface's operations.
+pub struct Fast;
+
+fn given<const N: usize>(out: &mut [u64], answer: Result<[u64; N], u64>) -> u64 {
+    match answer {
+        Ok(numbers) => give(out, &numbers),
+        Err(refusal) => refusal,
+    }
+}
+
+impl Interface for Fast {
+    fn task(&self, task: &[u64]) -> u64 {
+        Task::check(task).err().unwrap_or(0)
+    }
+
+    fn step(&self, task: &[u64], action: u16, shared: &[u64], out: &mut [u64]) -> u64 {
+        let (&[shared], true) = (shared, out.len() >= out_length::STEP) else {
+            return TOO_SHORT;
+        };
+        given(out, step(task, action, shared))
+    }
+
+    fn solo_replay(&self, task: &[u64], member: u8, plan: &[u16], out: &mut [u64]) -> u64 {
+        if out.len() < out_length::SOLO_REPLAY {
+            return TOO_SHORT;
+        }
+        given(out, solo::replay(task, member, plan))
+    }
+
+    fn solo_search(
+        &self,
+        task: &[u64],
+        member: u8,
+        table: &mut [u64],
+        marks: &mut [u8],
+        out: &mut [u64],
+    ) -> u64 {
+        if out.len() < out_length::SOLO_SEARCH {
+            return TOO_SHORT;
+        }
+        given(out, solo::search(task, member, table, marks))
+    }
+
+    fn joint_replay(&self, task: &[u64], plans: &[u16], ends: &[u64], picks: &[u8], out: &mut [u64]) -> u64 {
+        if out.len() < out_length::JOINT_REPLAY {
+            return TOO_SHORT;
+        }
+        given(out, run::joint_replay(task, plans, ends, picks))
+    }
+
+    fn pick(
+        &self,
+        task: &[u64],
+        plans: &[u16],
+        ends: &[u64],
+        run: &mut [u64],
+        member: u8,
+        out: &mut [u64],
+    ) -> u64 {
+        if out.len() < out_length::PICK || run.len() < run::WORDS {
+            return TOO_SHORT;
+        }
+        given(out, run::pick(task, plans, ends, run, member))
+    }
+
+    fn verdict(
+        &self,
+        task: &[u64],
+        local: &mut [u64],
+        marks: &mut [u8],
+        configurations: &mut [u64],
+        trail: &mut [u64],
+        plans: &mut [u16],
+        ends: &mut [u64],
+        picks: &mut [u8],
+        out: &mut [u64],
+    ) -> u64 {
+        if out.len() < out_length::VERDICT {
+            return TOO_SHORT;
+        }
+        let mut lent = verdict::Lent { local, marks, configurations, trail, plans, ends, picks };
+        given(out, verdict::verdict(task, &mut lent))
+    }
+
+    fn read(&self, text: &[u8], words: &mut [u64], out: &mut [u64]) -> u64 {
+        if out.len() < out_length::READ {
+            return TOO_SHORT;
+        }
+        given(out, text::read(text, words))
+    }
+}
+
+fn step(task: &[u64], action: u16, shared: u64) -> Result<[u64; 2], u64> {
+    let task = Task::check(task)?;
+    let action = task.actions.get(action as usize).ok_or(7u64)?;
+    if shared & !task.known != 0 {
+        return Err(4);
+    }
+    Ok(if action.waits(shared) {
+        [1, 0]
+    } else if !action.applicable(shared) {
+        [2, 0]
+    } else {
+        [0, action.apply(shared)]
+    })
+}

@@ -1,0 +1,146 @@
+//! Joint replay, and picks on a run that is handed in.
+
+use super::solo::{entries, play};
+use super::{Action, Task};
+
+/// Words of a run: collided, eight places, the shared copy.
+pub(super) const WORDS: usize = 10;
+
+/// Checked plans: each member's part of the plan slice.
+pub struct Plans<'a>(pub Vec<&'a [u16]>);
+
+impl<'a> Plans<'a> {
+    /// Checks ends, entries and that each plan solves.
+    pub fn check(task: &Task, plans: &'a [u16], ends: &[u64]) -> Result<Plans<'a>, u64> {
+        if ends.len() != task.members()
+            || ends.windows(2).any(|pair| pair[0] > pair[1])
+            || ends.last() != Some(&(plans.len() as u64))
+        {
+            return Err(11);
+        }
+        let mut parts = Vec::with_capacity(ends.len());
+        let mut begin = 0;
+        for (member, &end) in ends.iter().enumerate() {
+            let plan = &plans[begin..end as usize];
+            entries(task, member as u8, plan)?;
+            if !play(task, plan).is_ok_and(|state| task.reached(member, state)) {
+                return Err(12);
+            }
+            parts.push(plan);
+            begin = end as usize;
+        }
+        Ok(Plans(parts))
+    }
+
+    /// The member's next action, where a step is left.
+    fn next<'t>(&self, task: &'t Task, places: &[usize; 8], member: usize) -> Option<&'t Action> {
+        self.0[member].get(places[member]).map(|&number| &task.actions[number as usize])
+    }
+}
+
+/// How a run stands.
+#[derive(Clone, Copy, Debug, PartialEq, Eq)]
+pub enum Outcome {
+    Success,
+    Collision,
+    Deadlock,
+    Missed(u8),
+    Open,
+}
+
+/// The outcome of a run.
+pub fn outcome(task: &Task, plans: &Plans, places: &[usize; 8], shared: u64, collided: bool) -> Outcome {
+    if collided {
+        return Outcome::Collision;
+    }
+    let mut left = false;
+    for member in 0..task.members() {
+        if let Some(action) = plans.next(task, places, member) {
+            if !action.waits(shared) {
+                return Outcome::Open;
+            }
+            left = true;
+        }
+    }
+    if left {
+        return Outcome::Deadlock;
+    }
+    match (0..task.members()).find(|&member| !task.reached(member, shared)) {
+        Some(member) => Outcome::Missed(member as u8),
+        None => Outcome::Success,
+    }
+}
+
+pub(super) fn joint_replay(task: &[u64], plans: &[u16], ends: &[u64], picks: &[u8]) -> Result<[u64; 4], u64> {
+    let task = Task::check(task)?;
+    let plans = Plans::check(&task, plans, ends)?;
+    let mut places = [0; 8];
+    let mut shared = task.initial;
+    let mut done = 0;
+    let mut collided = false;
+    for &member in picks {
+        let member = member as usize;
+        if member >= task.members() {
+            return Err(8);
+        }
+        match plans.next(&task, &places, member) {
+            Some(action) if !collided && !action.waits(shared) => {
+                if action.applicable(shared) {
+                    shared = action.apply(shared);
+                    places[member] += 1;
+                    done += 1;
+                } else {
+                    collided = true;
+                }
+            }
+            _ => return Err(13),
+        }
+    }
+    let (kind, member) = match outcome(&task, &plans, &places, shared, collided) {
+        Outcome::Success => (0, 0),
+        Outcome::Collision => (1, 0),
+        Outcome::Deadlock => (2, 0),
+        Outcome::Missed(member) => (3, member as u64),
+        Outcome::Open => (4, 0),
+    };
+    Ok([kind, member, done, shared])
+}
+
+pub(super) fn pick(
+    task: &[u64],
+    plans: &[u16],
+    ends: &[u64],
+    run: &mut [u64],
+    member: u8,
+) -> Result<[u64; 1], u64> {
+    let task = Task::check(task)?;
+    let plans = Plans::check(&task, plans, ends)?;
+    let shared = run[9];
+    if shared & !task.known != 0 {
+        return Err(4);
+    }
+    let mut places = [0; 8];
+    for (member, plan) in plans.0.iter().enumerate() {
+        if run[1 + member] > plan.len() as u64 {
+            return Err(11);
+        }
+        places[member] = run[1 + member] as usize;
+    }
+    let member = member as usize;
+    if member >= task.members() {
+        return Err(8);
+    }
+    match plans.next(&task, &places, member) {
+        Some(action) if run[0] == 0 && !action.waits(shared) => {
+            if action.applicable(shared) {
+                run[1 + member] += 1;
+                run[9] = action.apply(shared);
+                Ok([0])
+            } else {
+                run[0] = 1;
+                Ok([1])
+            }
+        }
+        _ => Err(13),
+    }
+}

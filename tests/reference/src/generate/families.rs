@@ -1,0 +1,268 @@
+//! Families of valid laws, small and at the limits.
+
+use super::{all, few, some, Law};
+use crate::laws;
+use crate::random::Random;
+
+/// A small law, for which every operation is quick.
+pub fn small(random: &mut Random) -> Vec<u64> {
+    match random.below(10) {
+        0..=2 => tiny(random).words(),
+        3..=4 => any(random, 5, 3, 8).words(),
+        5..=6 => tokens(random, 3, 2).words(),
+        7 => near_the_laws(random),
+        8 => chains(random, 3, 4).words(),
+        _ => {
+            let law = tokens(random, 2, 2);
+            widened(random, law, 16, 4, 16).words()
+        }
+    }
+}
+
+/// A law with at most 3 facts, 3 members and 4 actions, small enough for brute force.
+pub fn tiny(random: &mut Random) -> Law {
+    any(random, 3, 3, 4)
+}
+
+/// A law at one limit or more.
+pub fn at_the_limits(random: &mut Random) -> Vec<u64> {
+    match random.below(9) {
+        0 => one_fact(random).words(),
+        1 => ones(random).words(),
+        2 => {
+            let law = tokens(random, 3, 2);
+            widened(random, law, 64, 8, 256).words()
+        }
+        3 => {
+            let law = any(random, 6, 4, 12);
+            widened(random, law, 64, 8, 256).words()
+        }
+        4 => counters(random.between(1, 4), random.between(1, 4)).words(),
+        5 => {
+            let bits = if random.chance(10) { random.between(10, 13) } else { random.between(5, 9) };
+            counters(1, bits).words()
+        }
+        6 => chains(random, 8, 8).words(),
+        7 => without_actions(random).words(),
+        _ => {
+            let law = tokens(random, 8, 1);
+            let facts = law.facts;
+            widened(random, law, facts, 8, 256).words()
+        }
+    }
+}
+
+/// Any masks at all, with few bits in each.
+pub fn any(random: &mut Random, facts: usize, members: usize, actions: usize) -> Law {
+    let facts = random.between(1, facts);
+    let members = random.between(1, members);
+    let actions = random.between(0, actions);
+    let rich = random.chance(60);
+    let initial = if rich { some(random, facts) } else { few(random, facts, 2) };
+    Law {
+        facts,
+        initial,
+        goals: (0..members).map(|_| few(random, facts, 2)).collect(),
+        actions: (0..actions)
+            .map(|_| {
+                let pre = few(random, facts, 2);
+                let wait = if random.chance(50) { pre } else { pre & random.word() };
+                let (add, del) = (few(random, facts, 2), few(random, facts, 2));
+                [random.below(members) as u64, pre, wait, add, del]
+            })
+            .collect(),
+    }
+}
+
+/// One of the paper's laws with some bits turned over.
+pub fn near_the_laws(random: &mut Random) -> Vec<u64> {
+    let valid = laws::valid();
+    let mut words = valid[random.below(valid.len())].clone();
+    let facts = words[0] as usize;
+    let (goals, actions) = (words[1] as usize, words[2] as usize);
+    for _ in 0..random.between(0, 3) {
+        let bit = 1 << random.below(facts);
+        match random.below(4) {
+            0 => words[3] ^= bit,
+            1 => words[5 * random.between(1, goals) + 1] ^= bit,
+            _ if actions > 0 => {
+                let row = 5 * (1 + goals + random.below(actions));
+                words[row + random.between(1, 4)] ^= bit;
+                words[row + 2] &= words[row + 1];
+            }
+            _ => {}
+        }
+    }
+    words
+}
+
+/// Members who take tokens, one after another, work, and mostly give them back: locks with and without
+/// waiting, in one order or in several.
+pub fn tokens(random: &mut Random, members: usize, tokens: usize) -> Law {
+    let members = random.between(1, members);
+    let tokens = random.between(1, tokens);
+    let facts = tokens + members * (tokens + 1);
+    let token = |number: usize| 1u64 << number;
+    let held = |member: usize, number: usize| 1u64 << (tokens + member * (tokens + 1) + number);
+    let done = |member: usize| held(member, tokens);
+    let mut law = Law { facts, initial: all(tokens), goals: vec![0; members], actions: Vec::new() };
+    let careful = random.chance(50);
+    for member in 0..members {
+        let first = if careful { 0 } else { random.below(tokens) };
+        let takes = random.between(1, tokens);
+        let mut holds = 0;
+        let mut returns = 0;
+        for number in (0..takes).map(|index| (first + index) % tokens) {
+            let pre = holds | token(number);
+            let wait = if careful || random.chance(70) { token(number) } else { 0 };
+            let add = held(member, number);
+            law.actions.push([member as u64, pre, wait, add, token(number)]);
+            holds |= held(member, number);
+            returns |= token(number);
+        }
+        let given = if careful || random.chance(70) { returns } else { 0 };
+        law.actions.push([member as u64, holds, 0, done(member) | given, holds]);
+        law.goals[member] = match random.below(4) {
+            0 => done(member),
+            1 => 0,
+            _ => done(member) | given,
+        };
+        if random.chance(10) {
+            // An action that undoes what another member may want.
+            let undone = few(random, facts, 2);
+            law.actions.push([member as u64, done(member), 0, 0, undone]);
+        }
+    }
+    law
+}
+
+/// Members who each walk along facts of their own; robust, with as many configurations as a grid has points.
+pub fn chains(random: &mut Random, members: usize, longest: usize) -> Law {
+    let lengths: Vec<usize> = (0..random.between(1, members)).map(|_| random.between(1, longest)).collect();
+    chains_of(&lengths)
+}
+
+/// Chains of given lengths, with at most 64 points in all.
+pub fn chains_of(lengths: &[usize]) -> Law {
+    let mut law = Law { facts: lengths.iter().sum(), initial: 0, goals: Vec::new(), actions: Vec::new() };
+    let mut begin = 0;
+    for (member, length) in lengths.iter().enumerate() {
+        law.initial |= 1 << begin;
+        for point in begin + 1..begin + length {
+            let (here, there) = (1 << (point - 1), 1 << point);
+            law.actions.push([member as u64, here, 0, there, here]);
+        }
+        begin += length;
+        law.goals.push(1 << (begin - 1));
+    }
+    law
+}
+
+/// Members who each turn over facts of their own one by one: 2^facts local copies.
+pub fn counters(members: usize, facts: usize) -> Law {
+    let mut law = Law { facts: members * facts, initial: 0, goals: Vec::new(), actions: Vec::new() };
+    for member in 0..members {
+        let bits = (member * facts..(member + 1) * facts).map(|fact| 1u64 << fact);
+        law.goals.push(bits.clone().sum());
+        for bit in bits {
+            law.actions.push([member as u64, 0, 0, bit, 0]);
+            law.actions.push([member as u64, bit, 0, 0, bit]);
+        }
+    }
+    law
+}
+
+/// F = 1, with up to 8 members and 256 actions.
+fn one_fact(random: &mut Random) -> Law {
+    let mut law = any(random, 1, 8, 20);
+    if random.chance(20) {
+        law = widened(random, law, 1, 8, 256);
+    }
+    law
+}
+
+/// F = 64 and words of all ones wherever they may stand.
+fn ones(random: &mut Random) -> Law {
+    let mask = |random: &mut Random| random.one_of(&[u64::MAX, u64::MAX, 0, 1, 1 << 63]);
+    let members = random.one_of(&[1, 2, 8]);
+    let actions = random.one_of(&[0, 1, 4, 256]);
+    let mut law = Law { facts: 64, initial: mask(random), goals: vec![], actions: vec![] };
+    for _ in 0..members {
+        law.goals.push(mask(random));
+    }
+    for _ in 0..actions {
+        let pre = mask(random);
+        let wait = mask(random) & pre;
+        let row = [random.below(members) as u64, pre, wait, mask(random), mask(random)];
+        law.actions.push(row);
+    }
+    law
+}
+
+fn without_actions(random: &mut Random) -> Law {
+    let facts = random.one_of(&[1, 2, 63, 64]);
+    let initial = some(random, facts);
+    let members = random.one_of(&[1, 7, 8]);
+    let reached = random.chance(70);
+    let goal = |random: &mut Random| {
+        let goal = some(random, facts);
+        if reached {
+            goal & initial
+        } else {
+            goal
+        }
+    };
+    let goals = (0..members).map(|_| goal(random)).collect();
+    Law { facts, initial, goals, actions: Vec::new() }
+}
+
+/// The same law among more facts, members and actions: its facts stand anywhere, the new members are done at
+/// the start, and the new actions repeat others, do nothing, or need what nobody adds.
+pub fn widened(random: &mut Random, law: Law, facts: usize, members: usize, actions: usize) -> Law {
+    let facts = facts.max(law.facts);
+    let mut places: Vec<usize> = (0..facts).collect();
+    shuffle(random, &mut places);
+    let moved = |mask: u64| {
+        (0..law.facts).filter(|fact| mask >> fact & 1 == 1).fold(0, |new, fact| new | 1 << places[fact])
+    };
+    let unused = places[law.facts..].iter().fold(0u64, |mask, place| mask | 1 << place);
+    let start = moved(law.initial);
+    let mut wide = Law {
+        facts,
+        initial: start,
+        goals: law.goals.iter().map(|&goal| moved(goal)).collect(),
+        actions: law
+            .actions
+            .iter()
+            .map(|&[member, pre, wait, add, del]| [member, moved(pre), moved(wait), moved(add), moved(del)])
+            .collect(),
+    };
+    while wide.goals.len() < members {
+        wide.goals.push(if random.chance(90) { 0 } else { start });
+    }
+    let given = wide.actions.clone();
+    while wide.actions.len() < actions {
+        let member = random.below(wide.goals.len()) as u64;
+        let row = match random.below(10) {
+            0 if !given.is_empty() => random.one_of(&given),
+            1 => [member, 0, 0, 0, 0],
+            _ if unused != 0 => {
+                let pre = unused & random.word();
+                let add = if pre == 0 { 0 } else { some(random, facts) };
+                [member, pre, pre & random.word(), add, if pre == 0 { 0 } else { all(facts) }]
+            }
+            _ => [member, start, 0, start, 0],
+        };
+        wide.actions.push(row);
+    }
+    if random.chance(50) {
+        shuffle(random, &mut wide.actions);
+    }
+    wide
+}
+
+fn shuffle<T>(random: &mut Random, items: &mut [T]) {
+    for last in (1..items.len()).rev() {
+        items.swap(last, random.below(last + 1));
+    }
+}

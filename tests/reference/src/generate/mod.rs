@@ -1,0 +1,89 @@
+//! Generated inputs. Everything comes from one [`Random`], so a seed and a case number give a case again.
+
+pub mod damage;
+pub mod families;
+pub mod plans;
+pub mod text;
+
+use crate::random::Random;
+
+/// A law in parts, before it is laid out in words.
+#[derive(Clone, Debug)]
+pub struct Law {
+    pub facts: usize,
+    pub initial: u64,
+    pub goals: Vec<u64>,
+    /// Rows of an action: member, pre, wait, add, del.
+    pub actions: Vec<[u64; 5]>,
+}
+
+impl Law {
+    /// The task's words.
+    pub fn words(&self) -> Vec<u64> {
+        let sizes = [self.facts, self.goals.len(), self.actions.len()].map(|size| size as u64);
+        let mut words = vec![sizes[0], sizes[1], sizes[2], self.initial, 0];
+        for (member, &goal) in self.goals.iter().enumerate() {
+            words.extend([member as u64, goal, 0, 0, 0]);
+        }
+        words.extend(self.actions.iter().flatten());
+        words
+    }
+}
+
+/// A mask of up to `most` of the first `facts` facts.
+pub fn few(random: &mut Random, facts: usize, most: usize) -> u64 {
+    (0..random.between(0, most)).fold(0, |mask, _| mask | 1 << random.below(facts))
+}
+
+/// All of the first `facts` facts.
+pub fn all(facts: usize) -> u64 {
+    u64::MAX >> (64 - facts)
+}
+
+/// Any number of the first `facts` facts.
+pub fn some(random: &mut Random, facts: usize) -> u64 {
+    random.word() & all(facts)
+}
+
+/// An element of a lent slice.
+pub trait Cell: Copy + PartialEq + std::fmt::Display {
+    /// Stands around a lent slice, to show a write outside it.
+    const GUARD: Self;
+    const ONES: Self;
+    const ZERO: Self;
+    fn of_word(word: u64) -> Self;
+}
+
+macro_rules! cell {
+    ($($number:ty),*) => {$(
+        impl Cell for $number {
+            const GUARD: Self = 0xa5a5a5a5a5a5a5a5u64 as $number;
+            const ONES: Self = <$number>::MAX;
+            const ZERO: Self = 0;
+            fn of_word(word: u64) -> Self {
+                word as $number
+            }
+        }
+    )*};
+}
+cell!(u8, u16, u64);
+
+/// What a lent slice holds at entry: zeros, all ones, or anything.
+pub fn contents<T: Cell>(random: &mut Random, length: usize) -> Vec<T> {
+    match random.below(5) {
+        0 => vec![T::ZERO; length],
+        1 => vec![T::ONES; length],
+        _ => (0..length).map(|_| T::of_word(random.word())).collect(),
+    }
+}
+
+/// A length near one that is asked: mostly the same, else one less, a little more, or nothing.
+pub fn length_near(random: &mut Random, asked: usize) -> usize {
+    match random.below(100) {
+        0..=79 => asked,
+        80..=83 => asked.saturating_sub(1),
+        84 => random.below(asked + 1),
+        85 => 0,
+        _ => asked + random.between(1, 4),
+    }
+}

@@ -1,0 +1,67 @@
+//! The operations of the C interface as one trait: every number and slice as it is lent.
+
+/// The refusal of a slice shorter than asked.
+pub const TOO_SHORT: u64 = 14;
+
+/// How many numbers an answer writes to the front of `out`.
+pub mod out_length {
+    pub const STEP: usize = 2;
+    pub const SOLO_REPLAY: usize = 2;
+    pub const SOLO_SEARCH: usize = 2;
+    pub const JOINT_REPLAY: usize = 4;
+    pub const PICK: usize = 1;
+    pub const VERDICT: usize = 3;
+    pub const READ: usize = 1;
+}
+
+/// An implementation of the C interface. Each operation gives the refusal's number, or 0 for an answer.
+#[allow(clippy::too_many_arguments)]
+pub trait Interface: Sync {
+    fn task(&self, task: &[u64]) -> u64;
+
+    fn step(&self, task: &[u64], action: u16, shared: &[u64], out: &mut [u64]) -> u64;
+
+    fn solo_replay(&self, task: &[u64], member: u8, plan: &[u16], out: &mut [u64]) -> u64;
+
+    fn solo_search(
+        &self,
+        task: &[u64],
+        member: u8,
+        table: &mut [u64],
+        marks: &mut [u8],
+        out: &mut [u64],
+    ) -> u64;
+
+    fn joint_replay(&self, task: &[u64], plans: &[u16], ends: &[u64], picks: &[u8], out: &mut [u64]) -> u64;
+
+    fn pick(
+        &self,
+        task: &[u64],
+        plans: &[u16],
+        ends: &[u64],
+        run: &mut [u64],
+        member: u8,
+        out: &mut [u64],
+    ) -> u64;
+
+    fn verdict(
+        &self,
+        task: &[u64],
+        local: &mut [u64],
+        marks: &mut [u8],
+        configurations: &mut [u64],
+        trail: &mut [u64],
+        plans: &mut [u16],
+        ends: &mut [u64],
+        picks: &mut [u8],
+        out: &mut [u64],
+    ) -> u64;
+
+    fn read(&self, text: &[u8], words: &mut [u64], out: &mut [u64]) -> u64;
+}
+
+/// Writes an answer's numbers to the front of `out` and gives 0.
+pub fn give(out: &mut [u64], numbers: &[u64]) -> u64 {
+    out[..numbers.len()].copy_from_slice(numbers);
+    0
+}

@@ -1,0 +1,17 @@
+//! A second implementation of the law checker, written from the scope paper alone.
+//!
+//! * [`paper`]: facts as sets, plain loops, one module for each section of the paper. The oracle.
+//! * [`brute`]: all short plans and all pick orders of small laws.
+//! * [`fast`]: masks and hash maps, the twin for benchmarks and the stand-in for the proved library.
+//! * [`interface`]: the operations as the C interface lends them, one trait.
+//! * [`generate`]: laws, plans, picks and texts from fixed seeds, valid and damaged.
+//! * [`laws`]: L1 to L12 of the paper.
+#![forbid(unsafe_code)]
+
+pub mod brute;
+pub mod fast;
+pub mod generate;
+pub mod interface;
+pub mod laws;
+pub mod paper;
+pub mod random;

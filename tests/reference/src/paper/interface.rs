@@ -1,0 +1,91 @@
+//! The operations as the C interface lends them: a refusal number or 0, and the answer's numbers in `out`.
+//! The verdict stands apart, since its conflict is free.
+
+use super::run::{self, Outcome, Pick, RUN};
+use super::solo::{self, Replay};
+use super::step::{self, Step};
+use super::{task, text};
+use crate::interface::{give, out_length, TOO_SHORT};
+
+/// An outcome's number and member.
+pub fn outcome_numbers(outcome: Outcome) -> (u64, u64) {
+    match outcome {
+        Outcome::Success => (0, 0),
+        Outcome::Collision => (1, 0),
+        Outcome::Deadlock => (2, 0),
+        Outcome::Missed(member) => (3, member as u64),
+        Outcome::Open => (4, 0),
+    }
+}
+
+pub fn task(words: &[u64]) -> u64 {
+    task::check(words).err().unwrap_or(0)
+}
+
+pub fn step(words: &[u64], action: u16, shared: &[u64], out: &mut [u64]) -> u64 {
+    if out.len() < out_length::STEP || shared.len() != 1 {
+        return TOO_SHORT;
+    }
+    match step::step_by_number(words, action, shared[0]) {
+        Err(refusal) => refusal,
+        Ok(Step::Go(new)) => give(out, &[0, new.word()]),
+        Ok(Step::Wait) => give(out, &[1, 0]),
+        Ok(Step::Collision) => give(out, &[2, 0]),
+    }
+}
+
+pub fn solo_replay(words: &[u64], member: u8, plan: &[u16], out: &mut [u64]) -> u64 {
+    if out.len() < out_length::SOLO_REPLAY {
+        return TOO_SHORT;
+    }
+    match solo::replay(words, member, plan) {
+        Err(refusal) => refusal,
+        Ok(Replay::Solves) => give(out, &[0, 0]),
+        Ok(Replay::Breaks(index)) => give(out, &[1, index as u64]),
+        Ok(Replay::Short) => give(out, &[2, 0]),
+    }
+}
+
+pub fn solo_search(words: &[u64], member: u8, table: &mut [u64], marks: &mut [u8], out: &mut [u64]) -> u64 {
+    if out.len() < out_length::SOLO_SEARCH {
+        return TOO_SHORT;
+    }
+    match solo::search(words, member, table, marks) {
+        Err(refusal) => refusal,
+        Ok((count, live)) => give(out, &[count as u64, if live { 1 } else { 0 }]),
+    }
+}
+
+pub fn joint_replay(words: &[u64], plans: &[u16], ends: &[u64], picks: &[u8], out: &mut [u64]) -> u64 {
+    if out.len() < out_length::JOINT_REPLAY {
+        return TOO_SHORT;
+    }
+    match run::joint_replay(words, plans, ends, picks) {
+        Err(refusal) => refusal,
+        Ok(replay) => {
+            let (kind, member) = outcome_numbers(replay.outcome);
+            give(out, &[kind, member, replay.done as u64, replay.shared.word()])
+        }
+    }
+}
+
+pub fn pick(words: &[u64], plans: &[u16], ends: &[u64], run: &mut [u64], member: u8, out: &mut [u64]) -> u64 {
+    if out.len() < out_length::PICK || run.len() < RUN {
+        return TOO_SHORT;
+    }
+    match run::pick(words, plans, ends, &mut run[..RUN], member) {
+        Err(refusal) => refusal,
+        Ok(Pick::Go) => give(out, &[0]),
+        Ok(Pick::Collision) => give(out, &[1]),
+    }
+}
+
+pub fn read(bytes: &[u8], words: &mut [u64], out: &mut [u64]) -> u64 {
+    if out.len() < out_length::READ {
+        return TOO_SHORT;
+    }
+    match text::read(bytes, words) {
+        Err(refusal) => refusal,
+        Ok(records) => give(out, &[records as u64]),
+    }
+}
