@@ -1,4 +1,4 @@
-//! A second implementation of the law checker, written from the scope paper alone.
+//! A second implementation of the law checker, written from the scope paper and not from the definitions in `specs/`.
 //!
 //! * [`paper`]: facts as sets, plain loops, one module for each section of the paper. The oracle.
 //! * [`brute`]: all short plans and all pick orders of small laws.
