@@ -1,0 +1,309 @@
+-- What each way out of a call comes to. Assumes nothing.
+use mathlib.Core.Path.{_≡_, refl, sym, ap, ap₂, subst, _∙_}
+use mathlib.Core.Bool.{Bool, true, false, not, _||_}
+use mathlib.Core.List.{List, [], _∷_}
+use Prim.Native.Nat.{ℕ, _≤_, _<_}
+use native.Mathlib.Omega.{arith}
+use lib.ListN.{length, getD}
+use lib.Dec.{eqb, ltb}
+use borrow.Author.Tests.{lt-ltb, le-ltb, eq-eqb, ne-eqb}
+use mir.Val.{boolByte}
+use Rattle.semantics.specs.Base.{_if_, Answer, refused, gives}
+use Rattle.semantics.specs.Step.{step}
+use Rattle.semantics.specs.Solo.{soloReplay, soloSearch, SoloSearch}
+use Rattle.semantics.specs.Run.{jointReplay, pickOn}
+use Rattle.semantics.specs.Run as Paper
+use Rattle.semantics.specs.Text.{readText, Reading}
+use Rattle.semantics.specs.Verdict.{Lent, VerdictMeans}
+use Rattle.mask.specs.Number.{number}
+use Rattle.mask.specs.declared.Mask.{Mask}
+use Rattle.step.specs.Value.{decisionOf, steppedOf}
+use Rattle.step.specs.declared.Decision.{Decision}
+use Rattle.step.specs.declared.Stepped.{Stepped}
+use Rattle.step.specs.declared.Stepped.the-variants as stepped
+use Rattle.solo.specs.Value as soloValue
+use Rattle.solo.specs.declared.Solo.{Solo}
+use Rattle.solo.specs.declared.Replayed as soloReplayed
+use Rattle.solo.specs.declared.Replayed.the-variants as solved
+use Rattle.search.specs.Value.{searchedOf}
+use Rattle.search.specs.declared.SearchAnswer.{SearchAnswer}
+use Rattle.search.specs.declared.SearchAnswer.the-variants as search′
+use Rattle.picks.specs.Value as picksValue
+use Rattle.picks.specs.Value.{runOf, outcomeOf, PickMeans}
+use Rattle.picks.specs.declared.Replay.{Replay}
+use Rattle.picks.specs.declared.Replayed.{Replayed}
+use Rattle.picks.specs.declared.Replayed.the-variants as replayed
+use Rattle.picks.specs.declared.Run.{Run}
+use Rattle.picks.specs.declared.Picked.{Picked}
+use Rattle.picks.specs.declared.Answer.the-variants as answer
+use Rattle.picks.proofs.Laws.{means-go, means-collision, means-refused}
+use Rattle.text.specs.Post.{reading}
+use Rattle.text.specs.declared.TextRead.{TextRead}
+use Rattle.text.specs.declared.TextRead.the-variants as textRead
+use Rattle.verdict.specs.Value.{answerOf}
+use Rattle.verdict.specs.declared.VerdictAnswer.{VerdictAnswer}
+use Rattle.verdict.specs.declared.VerdictAnswer.the-variants as verdict
+use Rattle.capi.specs.Call.{Call, call, front, told, unlessShort, called, verdictCall}
+use Rattle.capi.specs.Numbers as numbers
+use Rattle.capi.specs.Runs.{runWords, runIn, wordsOf, after}
+use Rattle.capi.proofs.Told.{byte}
+
+-- ---- any operation
+
+module _ {A : Type 0} (of : A → List ℕ) (out : List ℕ) (a : Answer A) (short : Bool) where
+  short-call : short ≡ true → call 14 out ≡ called short of out a
+  short-call e = sym (ap (λ (b : Bool). called b of out a) e)
+
+  refused-call : (k : ℕ) → short ≡ false → a ≡ refused k → call k out ≡ called short of out a
+  refused-call k e is = sym (ap₂ (λ (b : Bool) (x : Answer A). called b of out x) e is)
+
+  given-call : (x : A) (after : List ℕ) → short ≡ false → a ≡ gives x → after ≡ front (of x) out → call 0 after ≡ called short of out a
+  given-call x after e is put = ap (call 0) put ∙ sym (ap₂ (λ (b : Bool) (y : Answer A). called b of out y) e is)
+
+module _ {A : Type 0} (before after : A) (short : Bool) where
+  short-slice : short ≡ true → before ≡ unlessShort short before after
+  short-slice e = sym (ap (λ (b : Bool). unlessShort b before after) e)
+
+  called-slice : (now : A) → short ≡ false → now ≡ after → now ≡ unlessShort short before after
+  called-slice now e is = is ∙ sym (ap (λ (b : Bool). unlessShort b before after) e)
+
+long : (out : List ℕ) (k : ℕ) → k ≤ length out → ltb (length out) k ≡ false
+long out k h = le-ltb (length out) k h
+
+left : (a b : Bool) → a ≡ true → (a || b) ≡ true
+left a b e = ap (λ (x : Bool). x || b) e
+
+right : (a b : Bool) → b ≡ true → (a || b) ≡ true
+right true b e = refl
+right false b e = e
+
+neither : (a b : Bool) → a ≡ false → b ≡ false → (a || b) ≡ false
+neither a b e f = ap₂ _||_ e f
+
+-- ---- step
+
+module _ (t shared out : List ℕ) (action : ℕ) where
+  abbrev StepCall : Call → Type 0
+  StepCall c = c ≡ called (not (eqb (length shared) 1) || ltb (length out) 2) numbers.decision out (step t action (getD shared 0 0))
+
+  abbrev stepShort : Bool
+  stepShort = not (eqb (length shared) 1) || ltb (length out) 2
+
+  pub step-shared : (length shared ≡ 1 → ⊥) → StepCall (call 14 out)
+  step-shared h = short-call numbers.decision out (step t action (getD shared 0 0)) stepShort (left (not (eqb (length shared) 1)) (ltb (length out) 2) (ap not (ne-eqb (length shared) 1 h)))
+
+  pub step-short : length out < 2 → StepCall (call 14 out)
+  step-short h = short-call numbers.decision out (step t action (getD shared 0 0)) stepShort (right (not (eqb (length shared) 1)) (ltb (length out) 2) (lt-ltb (length out) 2 h))
+
+  module _ (one : length shared ≡ 1) (room : 2 ≤ length out) (m : Mask) (e : number m ≡ getD shared 0 0) (s : Stepped) (is : steppedOf s ≡ step t action (number m)) where
+    fits : stepShort ≡ false
+    fits = neither (not (eqb (length shared) 1)) (ltb (length out) 2) (ap not (eq-eqb (length shared) 1 one)) (long out 2 room)
+
+    answered : (x : Stepped) → s ≡ x → step t action (getD shared 0 0) ≡ steppedOf x
+    answered x so = ap (step t action) (sym e) ∙ sym is ∙ ap steppedOf so
+
+    pub step-refused : (k : ℕ) → s ≡ stepped.Refused k → StepCall (call k out)
+    step-refused k so = refused-call numbers.decision out (step t action (getD shared 0 0)) stepShort k fits (answered (stepped.Refused k) so)
+
+    pub step-given : (d : Decision) (ns now : List ℕ) → s ≡ stepped.Gives d → ns ≡ numbers.decision (decisionOf d) → now ≡ front ns out → StepCall (call 0 now)
+    step-given d ns now so e′ put =
+        given-call numbers.decision out (step t action (getD shared 0 0)) stepShort (decisionOf d) now fits (answered (stepped.Gives d) so)
+        (put ∙ ap (λ (x : List ℕ). front x out) e′)
+
+-- ---- solo replay
+
+module _ (t plan out : List ℕ) (member : ℕ) where
+  abbrev SoloCall : Call → Type 0
+  SoloCall c = c ≡ called (ltb (length out) 2) numbers.solo out (soloReplay t member plan)
+
+  pub solo-short : length out < 2 → SoloCall (call 14 out)
+  solo-short h = short-call numbers.solo out (soloReplay t member plan) (ltb (length out) 2) (lt-ltb (length out) 2 h)
+
+  module _ (room : 2 ≤ length out) (s : soloReplayed.Replayed) (is : soloValue.replayedOf s ≡ soloReplay t member plan) where
+    pub solo-refused : (k : ℕ) → s ≡ solved.Refused k → SoloCall (call k out)
+    solo-refused k so = refused-call numbers.solo out (soloReplay t member plan) (ltb (length out) 2) k (long out 2 room) (sym is ∙ ap soloValue.replayedOf so)
+
+    pub solo-given : (d : Solo) (ns now : List ℕ) → s ≡ solved.Gives d → ns ≡ numbers.solo (soloValue.soloOf d) → now ≡ front ns out → SoloCall (call 0 now)
+    solo-given d ns now so e put =
+        given-call numbers.solo out (soloReplay t member plan) (ltb (length out) 2) (soloValue.soloOf d) now (long out 2 room) (sym is ∙ ap soloValue.replayedOf so)
+        (put ∙ ap (λ (x : List ℕ). front x out) e)
+
+-- ---- joint replay
+
+module _ (t plans ends picks out : List ℕ) where
+  abbrev JointCall : Call → Type 0
+  JointCall c = c ≡ called (ltb (length out) 4) numbers.replay out (jointReplay t plans ends picks)
+
+  pub joint-short : length out < 4 → JointCall (call 14 out)
+  joint-short h = short-call numbers.replay out (jointReplay t plans ends picks) (ltb (length out) 4) (lt-ltb (length out) 4 h)
+
+  module _ (room : 4 ≤ length out) (s : Replayed) (is : picksValue.replayedOf s ≡ jointReplay t plans ends picks) where
+    pub joint-refused : (k : ℕ) → s ≡ replayed.Refused k → JointCall (call k out)
+    joint-refused k so = refused-call numbers.replay out (jointReplay t plans ends picks) (ltb (length out) 4) k (long out 4 room) (sym is ∙ ap picksValue.replayedOf so)
+
+    pub joint-given : (r : Replay) (g : ℕ) (ns now : List ℕ) → s ≡ replayed.Gives r → g ≡ number (r .shared .0)
+        → ns ≡ numbers.replayed (outcomeOf (r .outcome)) (r .picked) g → now ≡ front ns out → JointCall (call 0 now)
+    joint-given r g ns now so same e put =
+        given-call numbers.replay out (jointReplay t plans ends picks) (ltb (length out) 4) (picksValue.replayOf r) now (long out 4 room) (sym is ∙ ap picksValue.replayedOf so)
+        (put ∙ ap (λ (x : List ℕ). front x out) (e ∙ ap (numbers.replayed (outcomeOf (r .outcome)) (r .picked)) same))
+
+-- ---- solo search
+
+module _ (t table marks out : List ℕ) (member : ℕ) where
+  abbrev SearchCall : List ℕ → List ℕ → Call → Type 0
+  SearchCall table′ marks′ c =
+      (c ≡ called (ltb (length out) 2) numbers.searched out (soloSearch t member table marks .answer))
+      × ((table′ ≡ unlessShort (ltb (length out) 2) table (soloSearch t member table marks .table))
+      × (marks′ ≡ unlessShort (ltb (length out) 2) marks (soloSearch t member table marks .marks)))
+
+  pub search-short : length out < 2 → SearchCall table marks (call 14 out)
+  search-short h =
+      let e = lt-ltb (length out) 2 h in (
+        short-call numbers.searched out (soloSearch t member table marks .answer) (ltb (length out) 2) e,
+        (
+          short-slice table (soloSearch t member table marks .table) (ltb (length out) 2) e,
+          short-slice marks (soloSearch t member table marks .marks) (ltb (length out) 2) e,
+        ),
+      )
+
+  module _ (room : 2 ≤ length out) (s : SearchAnswer) (table′ marks′ : List ℕ) (is : searchedOf s table′ marks′ ≡ soloSearch t member table marks) where
+    slices : (c : Call) → c ≡ called (ltb (length out) 2) numbers.searched out (soloSearch t member table marks .answer) → SearchCall table′ marks′ c
+    slices c e = (
+      e,
+      (
+        called-slice table (soloSearch t member table marks .table) (ltb (length out) 2) table′ (long out 2 room) (ap (λ (x : SoloSearch). x .table) is),
+        called-slice marks (soloSearch t member table marks .marks) (ltb (length out) 2) marks′ (long out 2 room) (ap (λ (x : SoloSearch). x .marks) is),
+      ),
+    )
+
+    pub search-refused : (k : ℕ) → s ≡ search′.Refused k → SearchCall table′ marks′ (call k out)
+    search-refused k so =
+        slices (call k out)
+        (refused-call numbers.searched out (soloSearch t member table marks .answer) (ltb (length out) 2) k (long out 2 room)
+        (sym (ap (λ (x : SoloSearch). x .answer) is) ∙ ap (λ (x : SearchAnswer). searchedOf x table′ marks′ .answer) so))
+
+    pub search-given : (count : ℕ) (live : Bool) (now : List ℕ) → s ≡ search′.Found count live → now ≡ front (count ∷ boolByte live ∷ []) out → SearchCall table′ marks′ (call 0 now)
+    search-given count live now so put =
+        slices (call 0 now)
+        (given-call numbers.searched out (soloSearch t member table marks .answer) (ltb (length out) 2) (record { count = count; live = live }) now (long out 2 room)
+        (sym (ap (λ (x : SoloSearch). x .answer) is) ∙ ap (λ (x : SearchAnswer). searchedOf x table′ marks′ .answer) so)
+        (put ∙ ap (λ (x : ℕ). front (count ∷ x ∷ []) out) (byte live)))
+
+-- ---- a pick on a run
+
+module _ (t plans ends run out : List ℕ) (member : ℕ) where
+  abbrev pickShort : Bool
+  pickShort = ltb (length run) runWords || ltb (length out) 1
+
+  abbrev done : Answer (Paper.Run ℕ)
+  done = pickOn t plans ends (runIn run) member
+
+  abbrev PickCall : List ℕ → Call → Type 0
+  PickCall run′ c =
+      (c ≡ called (ltb (length run) runWords || ltb (length out) 1) numbers.picked out (pickOn t plans ends (runIn run) member))
+      × (run′ ≡ unlessShort (ltb (length run) runWords || ltb (length out) 1) run (after run (pickOn t plans ends (runIn run) member)))
+
+  pub pick-run : length run < runWords → PickCall run (call 14 out)
+  pick-run h =
+      let e = left (ltb (length run) runWords) (ltb (length out) 1) (lt-ltb (length run) runWords h) in
+      (short-call numbers.picked out done pickShort e, short-slice run (after run done) pickShort e)
+
+  pub pick-short : length out < 1 → PickCall run (call 14 out)
+  pick-short h =
+      let e = right (ltb (length run) runWords) (ltb (length out) 1) (lt-ltb (length out) 1 h) in
+      (short-call numbers.picked out done pickShort e, short-slice run (after run done) pickShort e)
+
+  module _ (room : runWords ≤ length run) (space : 1 ≤ length out) (r : Run) (is : runOf r ≡ runIn run) (p : Picked) (means : PickMeans (pickOn t plans ends (runOf r) member) r p) where
+    fits′ : pickShort ≡ false
+    fits′ = neither (ltb (length run) runWords) (ltb (length out) 1) (long run runWords room) (long out 1 space)
+
+    here : PickMeans done r p
+    here = subst (λ (x : Paper.Run ℕ). PickMeans (pickOn t plans ends x member) r p) is means
+
+    pub pick-refused : (k : ℕ) → p .answer ≡ answer.Refused k → PickCall run (call k out)
+    pick-refused k so =
+        let is : done ≡ refused k = means-refused here k so in (
+          refused-call numbers.picked out done pickShort k fits′ is,
+          called-slice run (after run done) pickShort run fits′ (sym (ap (after run) is)),
+        )
+
+    module _ (result : ℕ) (now run′ : List ℕ) (held : run′ ≡ front (wordsOf (runOf (p .run))) run) where
+      given : (k : ℕ) → done ≡ gives (runOf (p .run)) → k ≡ (1 if p .run .collided) → call result now ≡ call 0 (front (k ∷ []) out) → PickCall run′ (call result now)
+      given k is number′ put = (
+        put ∙ given-call numbers.picked out done pickShort (runOf (p .run)) (front (k ∷ []) out) fits′ is (ap (λ (x : ℕ). front (x ∷ []) out) number′),
+        called-slice run (after run done) pickShort run′ fits′ (held ∙ sym (ap (after run) is)),
+      )
+
+      pub pick-goes : p .answer ≡ answer.Go → call result now ≡ call 0 (front (0 ∷ []) out) → PickCall run′ (call result now)
+      pick-goes so put = given 0 (means-go here so .0) (sym (ap (λ (b : Bool). 1 if b) (means-go here so .1))) put
+
+      pub pick-collides : p .answer ≡ answer.Collision → call result now ≡ call 0 (front (1 ∷ []) out) → PickCall run′ (call result now)
+      pick-collides so put = given 1 (means-collision here so .0) (sym (ap (λ (b : Bool). 1 if b) (means-collision here so .1))) put
+
+-- ---- the text reader
+
+module _ (text words out : List ℕ) where
+  abbrev ReadCall : List ℕ → Call → Type 0
+  ReadCall words′ c =
+      (c ≡ called (ltb (length out) 1) numbers.records out (readText text words .answer))
+      × (words′ ≡ unlessShort (ltb (length out) 1) words (readText text words .words))
+
+  pub read-short : length out < 1 → ReadCall words (call 14 out)
+  read-short h =
+      let e = lt-ltb (length out) 1 h in
+      (short-call numbers.records out (readText text words .answer) (ltb (length out) 1) e, short-slice words (readText text words .words) (ltb (length out) 1) e)
+
+  module _ (room : 1 ≤ length out) (s : TextRead) (words′ : List ℕ) (is : reading s words′ ≡ readText text words) where
+    slice′ : (c : Call) → c ≡ called (ltb (length out) 1) numbers.records out (readText text words .answer) → ReadCall words′ c
+    slice′ c e = (e, called-slice words (readText text words .words) (ltb (length out) 1) words′ (long out 1 room) (ap (λ (x : Reading). x .words) is))
+
+    pub read-refused : (k : ℕ) → s ≡ textRead.Refused k → ReadCall words′ (call k out)
+    read-refused k so =
+        slice′ (call k out)
+        (refused-call numbers.records out (readText text words .answer) (ltb (length out) 1) k (long out 1 room)
+        (sym (ap (λ (x : Reading). x .answer) is) ∙ ap (λ (x : TextRead). reading x words′ .answer) so))
+
+    pub read-given : (n : ℕ) (now : List ℕ) → s ≡ textRead.Records n → now ≡ front (n ∷ []) out → ReadCall words′ (call 0 now)
+    read-given n now so put =
+        slice′ (call 0 now)
+        (given-call numbers.records out (readText text words .answer) (ltb (length out) 1) n now (long out 1 room)
+        (sym (ap (λ (x : Reading). x .answer) is) ∙ ap (λ (x : TextRead). reading x words′ .answer) so)
+        put)
+
+-- ---- the verdict
+
+module _ (v : VerdictAnswer) (out : List ℕ) where
+  abbrev TellCall : Call → Type 0
+  TellCall c = c ≡ told numbers.verdict out (answerOf v)
+
+  tells : (x : VerdictAnswer) (c : Call) → v ≡ x → c ≡ told numbers.verdict out (answerOf x) → TellCall c
+  tells x c so e = e ∙ sym (ap (λ (y : VerdictAnswer). told numbers.verdict out (answerOf y)) so)
+
+  pub tell-refused : (k : ℕ) → v ≡ verdict.Refused k → TellCall (call k out)
+  tell-refused k so = tells (verdict.Refused k) (call k out) so refl
+
+  module _ (r : ℕ) (now : List ℕ) where
+    pub tell-robust : (n : ℕ) → v ≡ verdict.Robust n → call r now ≡ call 0 (front (0 ∷ 0 ∷ n ∷ []) out) → TellCall (call r now)
+    tell-robust n so e = tells (verdict.Robust n) (call r now) so e
+
+    pub tell-unsolvable : (i : ℕ) → v ≡ verdict.Unsolvable i → call r now ≡ call 0 (front (1 ∷ i ∷ 0 ∷ []) out) → TellCall (call r now)
+    tell-unsolvable i so e = tells (verdict.Unsolvable i) (call r now) so e
+
+    pub tell-collision : (k : ℕ) → v ≡ verdict.Collision k → call r now ≡ call 0 (front (2 ∷ 0 ∷ k ∷ []) out) → TellCall (call r now)
+    tell-collision k so e = tells (verdict.Collision k) (call r now) so e
+
+    pub tell-deadlock : (k : ℕ) → v ≡ verdict.Deadlock k → call r now ≡ call 0 (front (3 ∷ 0 ∷ k ∷ []) out) → TellCall (call r now)
+    tell-deadlock k so e = tells (verdict.Deadlock k) (call r now) so e
+
+    pub tell-missed : (i k : ℕ) → v ≡ verdict.Missed i k → call r now ≡ call 0 (front (4 ∷ i ∷ k ∷ []) out) → TellCall (call r now)
+    tell-missed i k so e = tells (verdict.Missed i k) (call r now) so e
+
+module _ (t out : List ℕ) (before : Lent) where
+  pub verdict-short : length out < 3 → verdictCall (ltb (length out) 3) t before before numbers.verdict out (call 14 out)
+  verdict-short h =
+      subst (λ (b : Bool). verdictCall b t before before numbers.verdict out (call 14 out)) (sym (lt-ltb (length out) 3 h)) (refl, refl)
+
+  pub verdict-told : 3 ≤ length out → (after′ : Lent) (v : VerdictAnswer) (c : Call) → VerdictMeans t before after′ (answerOf v) → c ≡ told numbers.verdict out (answerOf v)
+      → verdictCall (ltb (length out) 3) t before after′ numbers.verdict out c
+  verdict-told room after′ v c means e =
+      subst (λ (b : Bool). verdictCall b t before after′ numbers.verdict out c) (sym (long out 3 room)) (answerOf v, means, e)

@@ -1,0 +1,100 @@
+-- `capi::lawcheck_pick` meets its contract. Assumes nothing.
+use Rattle.capi.proofs.Calls.{pick-run, pick-short, pick-refused, pick-goes, pick-collides}
+use borrow.Author.Needs.{needs}
+use Rattle.capi.proofs.lawcheck_pick.Statement.{statement}
+use Rattle.capi.proofs.lawcheck_pick.Tie as tie
+
+returns : tie.Need-returns
+returns c =
+    let a = c .before .before .before .before .before .before .args in
+    pick-run (a .t .now) (a .plans .now) (a .ends .now) (a .run .now) (a .out .now) (a .member) (c .if1 .taken)
+
+returns-2 : tie.Need-returns-2
+returns-2 c =
+    let a = c .before .before .before .before .before .before .before .args in
+    pick-short (a .t .now) (a .plans .now) (a .ends .now) (a .run .now) (a .out .now) (a .member) (c .if2 .taken)
+
+run-of-requires : tie.Need-run-of-requires
+run-of-requires c κs = search needs
+
+pick-requires : tie.Need-pick-requires
+pick-requires c κs = search needs
+
+enum-told : tie.Need-enum-told
+enum-told c = search needs
+
+done-requires : tie.Need-done-requires
+done-requires c κs = search needs
+
+enum-told-2 : tie.Need-enum-told-2
+enum-told-2 c = search needs
+
+done-requires-2 : tie.Need-done-requires-2
+done-requires-2 c κs = search needs
+
+enum-known-a : tie.Need-enum-known-a
+enum-known-a c = search needs
+
+same-length : tie.Need-same-length
+same-length c = search needs
+
+same-length-2 : tie.Need-same-length-2
+same-length-2 c = search needs
+
+returns-3 : tie.Need-returns-3
+returns-3 c =
+    let p = c .before .before .before .before .before .before .before .before .before .before in
+    let r = p .before in
+    let e₂ = r .before .before in
+    let e₁ = e₂ .before in
+    let a = e₁ .before .before .before .before .before .before .args in
+    pick-goes (a .t .now) (a .plans .now) (a .ends .now) (a .run .now) (a .out .now) (a .member) (e₁ .if1 .left) (e₂ .if2 .left) (r .run-of .result) (r .run-of .ensures) (p .pick .result) (p .pick .ensures) (c .before .before .before .before .done .result) (c .before .before .before .before .done .last .1 .1 .0) (c .before .before .before .before .done .last .0) (c .before .before .before .before .done .ensures .1) (c .before .before .before .before .before .before .before .enum-told .given .1) (c .before .before .before .before .done .ensures .0)
+
+same-length-3 : tie.Need-same-length-3
+same-length-3 c = search needs
+
+same-length-4 : tie.Need-same-length-4
+same-length-4 c = search needs
+
+returns-4 : tie.Need-returns-4
+returns-4 c =
+    let p = c .before .before .before .before .before .before .before .before .before .before in
+    let r = p .before in
+    let e₂ = r .before .before in
+    let e₁ = e₂ .before in
+    let a = e₁ .before .before .before .before .before .before .args in
+    pick-collides (a .t .now) (a .plans .now) (a .ends .now) (a .run .now) (a .out .now) (a .member) (e₁ .if1 .left) (e₂ .if2 .left) (r .run-of .result) (r .run-of .ensures) (p .pick .result) (p .pick .ensures) (c .before .before .before .before .done2 .result) (c .before .before .before .before .done2 .last .1 .1 .0) (c .before .before .before .before .done2 .last .0) (c .before .before .before .before .done2 .ensures .1) (c .before .before .before .before .before .before .before .enum-told2 .given .1) (c .before .before .before .before .done2 .ensures .0)
+
+same-length-5 : tie.Need-same-length-5
+same-length-5 c = search needs
+
+returns-5 : tie.Need-returns-5
+returns-5 c =
+    let p = c .before .before .before .before in
+    let r = p .before in
+    let e₂ = r .before .before in
+    let e₁ = e₂ .before in
+    let a = e₁ .before .before .before .before .before .before .args in
+    pick-refused (a .t .now) (a .plans .now) (a .ends .now) (a .run .now) (a .out .now) (a .member) (e₁ .if1 .left) (e₂ .if2 .left) (r .run-of .result) (r .run-of .ensures) (p .pick .result) (p .pick .ensures) (c .before .a .given .0 .0) (c .before .a .given .1)
+
+pub lawcheck-pick-spec : {M : Type 1} → statement M
+lawcheck-pick-spec =
+    tie.close
+    (tie.spec
+    returns
+    returns-2
+    run-of-requires
+    pick-requires
+    enum-told
+    done-requires
+    enum-told-2
+    done-requires-2
+    enum-known-a
+    same-length
+    same-length-2
+    returns-3
+    same-length-3
+    same-length-4
+    returns-4
+    same-length-5
+    returns-5)

@@ -1,0 +1,65 @@
+-- `capi::lawcheck_read` meets its contract. Assumes nothing.
+use Rattle.capi.proofs.Calls.{read-short, read-refused, read-given}
+use borrow.Author.Needs.{needs}
+use Rattle.capi.proofs.lawcheck_read.Statement.{statement}
+use Rattle.capi.proofs.lawcheck_read.Tie as tie
+
+returns : tie.Need-returns
+returns c =
+    let a = c .before .before .before .before .args in
+    read-short (a .text .now) (a .words .now) (a .out .now) (c .if1 .taken)
+
+read-requires : tie.Need-read-requires
+read-requires c κs = search needs
+
+enum-known-s : tie.Need-enum-known-s
+enum-known-s c = search needs
+
+enum-known-s-2 : tie.Need-enum-known-s-2
+enum-known-s-2 c = search needs
+
+slice-aggregate-put : tie.Need-slice-aggregate-put
+slice-aggregate-put c = search needs
+
+put-requires : tie.Need-put-requires
+put-requires c κs = search needs
+
+same-length : tie.Need-same-length
+same-length c = search needs
+
+returns-2 : tie.Need-returns-2
+returns-2 c =
+    let f = c .before .before .before .before .before in
+    let e = f .before .before in
+    let a = e .before .before .before .before .args in
+    read-refused (a .text .now) (a .words .now) (a .out .now) (e .if1 .left) (f .read .result) (f .read .last .1 .0) (f .read .ensures) (c .before .s .given .0 .0) (c .before .s .given .1)
+
+same-length-2 : tie.Need-same-length-2
+same-length-2 c = search needs
+
+same-length-3 : tie.Need-same-length-3
+same-length-3 c = search needs
+
+returns-3 : tie.Need-returns-3
+returns-3 c =
+    let f = c .before .before .before .before .before .before .before .before .before .before in
+    let e = f .before .before in
+    let a = e .before .before .before .before .args in
+    let m = c .before .before .before .before .before .before .s2 in
+    read-given (a .text .now) (a .words .now) (a .out .now) (e .if1 .left) (f .read .result) (f .read .last .1 .0) (f .read .ensures) (m .given .0 .0) (c .before .before .put .last .0) (m .given .1) (c .before .before .put .ensures)
+
+pub lawcheck-read-spec : {M : Type 1} → statement M
+lawcheck-read-spec =
+    tie.close
+    (tie.spec
+    returns
+    read-requires
+    enum-known-s
+    enum-known-s-2
+    slice-aggregate-put
+    put-requires
+    same-length
+    returns-2
+    same-length-2
+    same-length-3
+    returns-3)

@@ -1,0 +1,55 @@
+-- The numbers that each answer writes to `out`; a number that an answer does not have is 0.
+use mathlib.Core.Bool.{Bool}
+use mathlib.Core.List.{List, [], _∷_}
+use Prim.Native.Nat.{ℕ}
+use Rattle.semantics.specs.Base.{_if_}
+use Rattle.semantics.specs.Step.{Decision}
+use Rattle.semantics.specs.Solo.{Solo, solves, breaks, short, Searched}
+use Rattle.semantics.specs.Run.{Fault, Outcome, success, failure, still-open, Replay, Run}
+use Rattle.semantics.specs.Verdict.{Verdict, unsolvable, notRobust, robust, Failing}
+
+-- 0 go, 1 wait, 2 collision; the new shared copy
+abbrev pub decision : Decision ℕ → List ℕ
+decision (Decision.go g) = 0 ∷ g ∷ []
+decision Decision.wait = 1 ∷ 0 ∷ []
+decision Decision.collision = 2 ∷ 0 ∷ []
+
+-- 0 solves, 1 breaks, 2 short; the index
+abbrev pub solo : Solo → List ℕ
+solo solves = 0 ∷ 0 ∷ []
+solo (breaks k) = 1 ∷ k ∷ []
+solo short = 2 ∷ 0 ∷ []
+
+-- the count; 1 where I is live
+abbrev pub searched : Searched → List ℕ
+searched s = s .count ∷ (1 if s .live) ∷ []
+
+-- 0 success, 1 collision, 2 deadlock, 3 missed, 4 open; member; picks done; shared copy
+abbrev pub replayed : Outcome → ℕ → ℕ → List ℕ
+replayed success k g = 0 ∷ 0 ∷ k ∷ g ∷ []
+replayed (failure Fault.collision) k g = 1 ∷ 0 ∷ k ∷ g ∷ []
+replayed (failure Fault.deadlock) k g = 2 ∷ 0 ∷ k ∷ g ∷ []
+replayed (failure (Fault.missed j)) k g = 3 ∷ j ∷ k ∷ g ∷ []
+replayed still-open k g = 4 ∷ 0 ∷ k ∷ g ∷ []
+
+abbrev pub replay : Replay ℕ → List ℕ
+replay r = replayed (r .outcome) (r .picked) (r .shared)
+
+-- 0 go, 1 collision
+abbrev pub picked : Run ℕ → List ℕ
+picked r = (1 if r .collided) ∷ []
+
+-- 0 robust, 1 unsolvable, 2 collision, 3 deadlock, 4 missed; member; number
+abbrev pub failing : Fault → ℕ → List ℕ
+failing Fault.collision k = 2 ∷ 0 ∷ k ∷ []
+failing Fault.deadlock k = 3 ∷ 0 ∷ k ∷ []
+failing (Fault.missed j) k = 4 ∷ j ∷ k ∷ []
+
+abbrev pub verdict : Verdict Failing → List ℕ
+verdict (robust c) = 0 ∷ 0 ∷ c ∷ []
+verdict (unsolvable i) = 1 ∷ i ∷ 0 ∷ []
+verdict (notRobust told) = failing (told .fault) (told .picked)
+
+-- records
+abbrev pub records : ℕ → List ℕ
+records n = n ∷ []
