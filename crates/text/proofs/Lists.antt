@@ -117,6 +117,18 @@ pub field-none : isField [] ≡ false
 unfolding isField all
 field-none = refl
 
+-- the first of several digits is not 0
+pub field-first : (b c : ℕ) (ds : List ℕ) → isField (b ∷ c ∷ ds) ≡ true → 48 < b
+field-first b c ds h =
+    let d = sym (all-cons isDigit b (c ∷ ds)) ∙ field-digits (b ∷ c ∷ ds) h in
+    let l : 48 ≤ b = digit-low b (and-left (isDigit b) (all isDigit (c ∷ ds)) d) in
+    let n : b ≡ 48 → ⊥ = not-zero (eqb b 48) refl (field-leads (b ∷ c ∷ ds) h) in
+    omega arith
+  where
+    not-zero : (t : Bool) → eqb b 48 ≡ t → not t ≡ true → b ≡ 48 → ⊥
+    not-zero true q n g = let z : _≡_ {A = ℕ} 0 1 = cc in omega arith
+    not-zero false q n g = eqb-false b 48 q g
+
 -- 0 alone has the value 0
 pub zero-field : (ds : List ℕ) → isField ds ≡ true → number ds ≡ 0 → ds ≡ 48 ∷ []
 zero-field [] h e = absurd (let z : _≡_ {A = ℕ} 0 1 = cc field-none in omega arith)
@@ -125,13 +137,8 @@ zero-field (b ∷ []) h e =
     let g : b ≡ 48 = omega (arith, number-one b) in
     ap (λ (n : ℕ). n ∷ []) g
 zero-field (b ∷ c ∷ ds) h e =
-    let l : 48 ≤ b = digit-low b (and-left (isDigit b) (all isDigit (c ∷ ds)) (sym (all-cons isDigit b (c ∷ ds)) ∙ field-digits (b ∷ c ∷ ds) h)) in
     let m : number (b ∷ []) ≤ number (b ∷ c ∷ ds) = number-grows (b ∷ []) (c ∷ ds) in
-    absurd (not-zero (eqb b 48) refl (field-leads (b ∷ c ∷ ds) h) (omega (arith, number-one b)))
-  where
-    not-zero : (t : Bool) → eqb b 48 ≡ t → not t ≡ true → b ≡ 48 → ⊥
-    not-zero true q n g = let z : _≡_ {A = ℕ} 0 1 = cc in omega arith
-    not-zero false q n g = eqb-false b 48 q g
+    absurd (omega (arith, number-one b, field-first b c ds h))
 
 -- a digit after a leading zero
 pub field-zero : (ds : List ℕ) (b : ℕ) → isField ds ≡ true → number ds ≡ 0 → (s : List ℕ) → isField ((ds ++ (b ∷ [])) ++ s) ≡ false
