@@ -25,9 +25,7 @@ fn timed(run: &mut impl FnMut()) -> Duration {
     start.elapsed()
 }
 
-/// One line of the table.
-pub fn line(operation: &str, law: &str, rows: usize, actions: usize, times: [Duration; 2]) {
-    let [first, second] = times.map(|time| time.as_secs_f64() * 1e6);
-    let ratio = first / second;
-    println!("| {operation} | {law} | {rows} | {actions} | {first:.1} | {second:.1} | {ratio:.2} |");
+/// How much longer one run took than another.
+pub fn ratio(time: Duration, other: Duration) -> f64 {
+    time.as_secs_f64() / other.as_secs_f64()
 }

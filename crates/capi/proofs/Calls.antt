@@ -36,6 +36,7 @@ use Rattle.picks.specs.declared.Replayed.the-variants as replayed
 use Rattle.picks.specs.declared.Run.{Run}
 use Rattle.picks.specs.declared.Picked.{Picked}
 use Rattle.picks.specs.declared.Answer.the-variants as answer
+use Rattle.theory.proofs.Lists.{or-left, or-right}
 use Rattle.picks.proofs.Laws.{means-go, means-collision, means-refused}
 use Rattle.text.specs.Post.{reading}
 use Rattle.text.specs.declared.TextRead.{TextRead}
@@ -70,16 +71,6 @@ module _ {A : Type 0} (before after : A) (short : Bool) where
 long : (out : List ℕ) (k : ℕ) → k ≤ length out → ltb (length out) k ≡ false
 long out k h = le-ltb (length out) k h
 
-left : (a b : Bool) → a ≡ true → (a || b) ≡ true
-left a b e = ap (λ (x : Bool). x || b) e
-
-right : (a b : Bool) → b ≡ true → (a || b) ≡ true
-right true b e = refl
-right false b e = e
-
-neither : (a b : Bool) → a ≡ false → b ≡ false → (a || b) ≡ false
-neither a b e f = ap₂ _||_ e f
-
 -- ---- step
 
 module _ (t shared out : List ℕ) (action : ℕ) where
@@ -90,14 +81,14 @@ module _ (t shared out : List ℕ) (action : ℕ) where
   stepShort = not (eqb (length shared) 1) || ltb (length out) 2
 
   pub step-shared : (length shared ≡ 1 → ⊥) → StepCall (call 14 out)
-  step-shared h = short-call numbers.decision out (step t action (getD shared 0 0)) stepShort (left (not (eqb (length shared) 1)) (ltb (length out) 2) (ap not (ne-eqb (length shared) 1 h)))
+  step-shared h = short-call numbers.decision out (step t action (getD shared 0 0)) stepShort (or-left (not (eqb (length shared) 1)) (ltb (length out) 2) (ap not (ne-eqb (length shared) 1 h)))
 
   pub step-short : length out < 2 → StepCall (call 14 out)
-  step-short h = short-call numbers.decision out (step t action (getD shared 0 0)) stepShort (right (not (eqb (length shared) 1)) (ltb (length out) 2) (lt-ltb (length out) 2 h))
+  step-short h = short-call numbers.decision out (step t action (getD shared 0 0)) stepShort (or-right (not (eqb (length shared) 1)) (ltb (length out) 2) (lt-ltb (length out) 2 h))
 
   module _ (one : length shared ≡ 1) (room : 2 ≤ length out) (m : Mask) (e : number m ≡ getD shared 0 0) (s : Stepped) (is : steppedOf s ≡ step t action (number m)) where
     fits : stepShort ≡ false
-    fits = neither (not (eqb (length shared) 1)) (ltb (length out) 2) (ap not (eq-eqb (length shared) 1 one)) (long out 2 room)
+    fits = ap₂ _||_ (ap not (eq-eqb (length shared) 1 one)) (long out 2 room)
 
     answered : (x : Stepped) → s ≡ x → step t action (getD shared 0 0) ≡ steppedOf x
     answered x so = ap (step t action) (sym e) ∙ sym is ∙ ap steppedOf so
@@ -205,17 +196,17 @@ module _ (t plans ends run out : List ℕ) (member : ℕ) where
 
   pub pick-run : length run < runWords → PickCall run (call 14 out)
   pick-run h =
-      let e = left (ltb (length run) runWords) (ltb (length out) 1) (lt-ltb (length run) runWords h) in
+      let e = or-left (ltb (length run) runWords) (ltb (length out) 1) (lt-ltb (length run) runWords h) in
       (short-call numbers.picked out done pickShort e, short-slice run (after run done) pickShort e)
 
   pub pick-short : length out < 1 → PickCall run (call 14 out)
   pick-short h =
-      let e = right (ltb (length run) runWords) (ltb (length out) 1) (lt-ltb (length out) 1 h) in
+      let e = or-right (ltb (length run) runWords) (ltb (length out) 1) (lt-ltb (length out) 1 h) in
       (short-call numbers.picked out done pickShort e, short-slice run (after run done) pickShort e)
 
   module _ (room : runWords ≤ length run) (space : 1 ≤ length out) (r : Run) (is : runOf r ≡ runIn run) (p : Picked) (means : PickMeans (pickOn t plans ends (runOf r) member) r p) where
     fits′ : pickShort ≡ false
-    fits′ = neither (ltb (length run) runWords) (ltb (length out) 1) (long run runWords room) (long out 1 space)
+    fits′ = ap₂ _||_ (long run runWords room) (long out 1 space)
 
     here : PickMeans done r p
     here = subst (λ (x : Paper.Run ℕ). PickMeans (pickOn t plans ends x member) r p) is means

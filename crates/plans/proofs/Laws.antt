@@ -97,7 +97,7 @@ module _ (plans ends : List ℕ) (j : ℕ) {n : ℕ} (p : Part n plans ends j) w
       ∙ getD-take (getD ends j 0) plans (beginning ends j + k) 0 (omega (arith, plan-length))
 
 -- a part is taken from its start on
-part-slice : (a e : ℕ) (xs : List ℕ) → a ≤ e → take (e - a) (drop a xs) ≡ slice a e xs
+pub part-slice : (a e : ℕ) (xs : List ℕ) → a ≤ e → take (e - a) (drop a xs) ≡ slice a e xs
 part-slice zero e xs h = let q : e - 0 ≡ e = omega arith in rw q
 part-slice (suc a) zero xs h = absurd (omega arith)
 part-slice (suc a) (suc e) [] h = take-nil (suc e - suc a)

@@ -10,7 +10,7 @@ use lib.Seq.{drop-cons}
 use Rattle.semantics.specs.Base.{upTo, any, all}
 use Rattle.theory.proofs.Lists.{upTo-length, getD-upTo}
 
-upTo-at : (n i : ℕ) → i < n → getD (upTo n) i 0 ≡ i
+pub upTo-at : (n i : ℕ) → i < n → getD (upTo n) i 0 ≡ i
 upTo-at n i h = ap (λ (l : List ℕ). getD l i 0) (sym (map-id (upTo n))) ∙ getD-upTo (λ x. x) n i 0 h
 
 upTo-turn : (n i : ℕ) → i < n → drop i (upTo n) ≡ i ∷ drop (i + 1) (upTo n)

@@ -131,6 +131,20 @@ pub fn list<T: Cell>(cells: &[T]) -> String {
     format!("[{}]", cells.join(" "))
 }
 
+/// A command for the shell that gives this text to the verdict program.
+pub fn command(text: &[u8]) -> String {
+    let mut command = String::from("printf '");
+    for &byte in text {
+        match byte {
+            b'0'..=b'9' | b',' => command.push(byte as char),
+            b'\r' => command.push_str("\\r"),
+            b'\n' => command.push_str("\\n"),
+            _ => command.push_str(&format!("\\x{byte:02x}")),
+        }
+    }
+    command + "' | ./lawcheck"
+}
+
 impl fmt::Display for Failure {
     fn fmt(&self, to: &mut fmt::Formatter) -> fmt::Result {
         writeln!(to, "{}", self.operation)?;
@@ -139,13 +153,11 @@ impl fmt::Display for Failure {
                 if words.len() % 5 != 0 {
                     writeln!(to, "the task has {} words, and its last record is short:", words.len())?;
                 }
-                write!(to, "{}", text::of_words(words))?;
+                let text = text::of_words(words);
+                write!(to, "{text}")?;
+                writeln!(to, "{}", command(text.as_bytes()))?;
             }
-            Input::Text(bytes) => {
-                writeln!(to, "the text in escapes: \"{}\"", bytes.escape_ascii())?;
-                write!(to, "{}", String::from_utf8_lossy(bytes))?;
-                writeln!(to)?;
-            }
+            Input::Text(bytes) => writeln!(to, "{}", command(bytes))?,
         }
         for (name, value) in &self.others {
             writeln!(to, "  {name}: {value}")?;

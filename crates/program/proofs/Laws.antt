@@ -1,0 +1,270 @@
+-- Laws of the program: its slices' lengths, what a conflict's slices hold, and the words that the reader gives. Assumes nothing.
+use mathlib.Core.Path.{_≡_, refl, sym, ap, subst, _∙_}
+use mathlib.Core.Bool.{Bool, true, false, not, _&&_}
+use mathlib.Core.List.{List, [], _∷_, _++_, map, flatten}
+use Prim.Native.Nat.{ℕ, zero, suc, _+_, _-_, _*_, _/_, _≤_, _<_}
+use native.Mathlib.Nat.{mul-div-le, div-lt-iff-lt-mul}
+use native.Mathlib.Numerals.{add-one}
+use native.Mathlib.Omega.{arith}
+use lib.ListN.{length, getD, take, replicate, length-append, length-take, length-replicate, length-map, List·getD-append}
+use lib.Seq.{take-at}
+use lib.Dec.{eqb, ltb, leb}
+use borrow.Author.Tests.{eqb-true, le-ltb}
+use Rattle.semantics.specs.Base.{upTo, all, _if_, _else_, Answer, refused, gives, unless, padded}
+use Rattle.semantics.specs.Task.{rowWidth, check, members}
+use Rattle.semantics.specs.Text.{mostRecords, records, fields, number, isField, isRecord, isText, textWords, Reading, readUnless, readText}
+use Rattle.semantics.specs.Run.{beginning, endsFit, plansOf, plansRefusal, Replay, replay, jointReplay}
+use Rattle.semantics.specs.System.{system, waits}
+use Rattle.semantics.specs.Verdict.{Verdict, unsolvable, notRobust, robust, Finding, Failing, Lent, room, tooShort, Conflict, listedFor, VerdictIs, VerdictMeans, localRows, configurationRows, verdictIn, verdict}
+use Rattle.theory.proofs.Lists.{and-elim}
+use Rattle.theory.proofs.Refusals.{else-both, if-not-true, refused-gives, gives-inj, unless-gives}
+use Rattle.theory.proofs.Accepted.{accepted, accepted-lawful}
+use Rattle.theory.proofs.Verdict.{Found, found}
+use Rattle.text.specs.Post.{mostWords, reading}
+use Rattle.text.specs.declared.TextRead.{TextRead}
+use Rattle.text.specs.declared.TextRead.the-variants.{Records, Refused}
+use Rattle.verdict.specs.Value.{lentOf}
+use Rattle.plans.proofs.Laws.{part}
+use Rattle.report.specs.File.{word, header, line, file}
+use Rattle.report.specs.Put.{mostFile, Put, Holds}
+use Rattle.program.specs.Program.{localWords, configurationWords, K, C, lentFor, Reports, PrintsFor, Prints, mostBytes}
+
+-- ---- lengths
+
+-- the rows of all members fit the local table
+pub rows-most : (n : ℕ) → n * (localWords / n) ≤ localWords
+rows-most n = mul-div-le localWords n
+
+pub configurations-most : (n : ℕ) → 1 ≤ n → configurationWords / (n + 1) ≤ 4096
+configurations-most n h =
+    let l : configurationWords / (n + 1) < 4097 = div-lt-iff-lt-mul {k = n + 1} {x = configurationWords} {y = 4097} (omega arith) .1 (omega arith) in
+    omega arith
+
+-- the front of a slice of zeros
+take-zeros : (n m : ℕ) → n ≤ m → take n (replicate {A = ℕ} m 0) ≡ replicate n 0
+take-zeros zero m h = refl
+take-zeros (suc n) zero h = absurd (omega arith)
+take-zeros (suc n) (suc m) h = ap (λ (l : List ℕ). 0 ∷ l) (take-zeros n m (omega arith))
+
+pub front-length : (n m : ℕ) → n ≤ m → n ≡ length (take n (replicate {A = ℕ} m 0))
+front-length n m h = sym (ap length (take-zeros n m h) ∙ length-replicate {A = ℕ} n 0)
+
+-- the fronts of the program's slices are those that the verdict is lent
+pub lends : (t : List ℕ) → check t ≡ 0 → (n : ℕ) → n ≡ members t
+    → lentOf (replicate localWords 0) (take (n * (localWords / n)) (replicate 4096 0)) (replicate configurationWords 0) (take (2 * (configurationWords / (n + 1))) (replicate 8192 0))
+    (take (configurationWords / (n + 1) + n * (localWords / n)) (replicate 8192 0)) (take n (replicate 8 0)) (take (configurationWords / (n + 1)) (replicate 4096 0))
+    ≡ lentFor t
+unfolding lentFor
+lends t ok n e =
+    let a = accepted t ok in
+    let r = rows-most n in
+    let c = configurations-most n (omega (arith, a .some-members)) in
+    rw (
+      take-zeros (n * (localWords / n)) 4096 r,
+      take-zeros (2 * (configurationWords / (n + 1))) 8192 (omega arith),
+      take-zeros (configurationWords / (n + 1) + n * (localWords / n)) 8192 (omega arith),
+      take-zeros n 8 (omega (arith, a .few-members)),
+      take-zeros (configurationWords / (n + 1)) 4096 c,
+      add-one n,
+      e,
+    )
+
+-- the slices are never too short: an accepted task is not refused with 14
+pub long-enough : (t : List ℕ) → tooShort t (room (lentFor t)) ≡ false
+unfolding lentFor
+long-enough t =
+    rw (
+      length-replicate {A = ℕ} localWords 0,
+      length-replicate {A = ℕ} configurationWords 0,
+      length-replicate {A = ℕ} (members t * K t) 0,
+      length-replicate {A = ℕ} (2 * C t) 0,
+      length-replicate {A = ℕ} (C t + members t * K t) 0,
+      length-replicate {A = ℕ} (members t) 0,
+      length-replicate {A = ℕ} (C t) 0,
+      same (members t * K t),
+      same (2 * C t),
+      same (C t + members t * K t),
+      same (members t),
+      same (C t),
+    )
+  where
+    same : (n : ℕ) → ltb n n ≡ false
+    same n = le-ltb n n (omega arith)
+
+-- so the verdict refuses an accepted task with 9, or not at all
+pub refused-nine : (t : List ℕ) → check t ≡ 0 → (after : Lent) (answer : Answer (Verdict Failing)) (k : ℕ) → VerdictMeans t (lentFor t) after answer → answer ≡ refused k → k ≡ 9
+unfolding verdict
+refused-nine t ok after answer k m e = at (verdict t (room (lentFor t))) refl m
+  where
+    found-in : Answer Finding
+    found-in = verdictIn (system t) (waits t) (localRows t (room (lentFor t) .localWords)) (configurationRows t (room (lentFor t) .configurationWords))
+
+    searched : verdict t (room (lentFor t)) ≡ found-in
+    searched =
+        let short = tooShort t (room (lentFor t)) in
+        ap (λ (r : ℕ). unless (r else (14 if short)) found-in) ok ∙ ap (λ (b : Bool). unless (14 if b) found-in) (long-enough t)
+
+    nine : (j : ℕ) (x : Answer Finding)
+        → Found (system t) (waits t) (accepted-lawful t ok) (localRows t (room (lentFor t) .localWords)) (configurationRows t (room (lentFor t) .configurationWords)) x
+        → x ≡ refused j → j ≡ 9
+    nine j x (Found.copies-full h l) g = cc
+    nine j x (Found.dead fits h dead lower) g = absurd (refused-gives (sym g))
+    nine j x (Found.configurations-full fits live l) g = cc
+    nine j x (Found.faulty s m shown) g = absurd (refused-gives (sym g))
+    nine j x (Found.faultless s none) g = absurd (refused-gives (sym g))
+
+    at : (f : Answer Finding) → verdict t (room (lentFor t)) ≡ f → VerdictIs t (lentFor t) after answer f → k ≡ 9
+    at (refused j) g m =
+        let same : j ≡ k = cc (sym (m .0) ∙ e) in
+        sym same ∙ nine j found-in (found (system t) (waits t) (accepted-lawful t ok) (localRows t (room (lentFor t) .localWords)) (configurationRows t (room (lentFor t) .configurationWords))) (sym searched ∙ g)
+    at (gives (unsolvable i)) g m = absurd (refused-gives (sym e ∙ m .0))
+    at (gives (robust c)) g m = absurd (refused-gives (sym e ∙ m .0))
+    at (gives (notRobust u)) g m = absurd (refused-gives (sym e ∙ m .1))
+
+-- ---- what is put lies in the slice
+
+pub put-within : {out bytes out′ : List ℕ} {r : ℕ} → Put out 0 bytes out′ r → r ≤ length out′
+put-within {out′ = out′} {r = r} p = omega (arith, p .count, length-take r out′, ap length (p .held))
+
+-- ---- the slices of a conflict
+
+padded-at : (m : ℕ) (xs : List ℕ) (j : ℕ) → j < length xs → getD (padded m xs) j 0 ≡ getD xs j 0
+padded-at m xs j h = List·getD-append xs (replicate (m - length xs) 0) 0 j h
+
+padded-beginning : (m : ℕ) (xs : List ℕ) (j : ℕ) → j ≤ length xs → beginning (padded m xs) j ≡ beginning xs j
+padded-beginning m xs zero h = refl
+padded-beginning m xs (suc j) h = padded-at m xs j h
+
+padded-long : (m : ℕ) (xs : List ℕ) → length xs ≤ length (padded m xs)
+padded-long m xs = omega (arith, length-append xs (replicate (m - length xs) 0))
+
+-- what replays has ends that fit
+replays-fit : (t plans ends picks : List ℕ) {r : Replay ℕ} → jointReplay t plans ends picks ≡ gives r → endsFit (members t) plans ends ≡ true
+unfolding jointReplay plansRefusal
+replays-fit t plans ends picks e =
+    let u = unless-gives (plansRefusal t plans ends) (replay (system t) (waits t) (plansOf (members t) plans ends) picks) e in
+    if-not-true 10 _ (else-both (11 if not (endsFit (members t) plans ends)) _ (else-both (check t) _ (u .0) .1) .0)
+
+ends-many : (n : ℕ) (plans ends : List ℕ) → endsFit n plans ends ≡ true → length ends ≡ n
+unfolding endsFit
+ends-many n plans ends fit =
+    eqb-true (length ends) n (and-elim (eqb (length ends) n) _ (and-elim (eqb (length ends) n && all (λ j. leb (beginning ends j) (getD ends j 0)) (upTo n)) _ fit .0) .0)
+
+module _ (t : List ℕ) (before after : Lent) (answer : Answer (Verdict Failing)) where
+  conflict-holds : (told : Failing) (listed : ℕ) → Conflict t told listed before after → Holds (gives (notRobust told)) (members t) (after .plans) (after .ends) (after .picks)
+  conflict-holds told listed c =
+      let n = members t in
+      let fit : endsFit n (c .plans) (c .ends) ≡ true = replays-fit t (c .plans) (c .ends) (c .picks) (c .replays) in
+      let many : length (c .ends) ≡ n = ends-many n (c .plans) (c .ends) fit in
+      let part-of = part n (c .plans) (c .ends) fit in (
+        record {
+          enough = rw (c .endsHeld) (omega (arith, padded-long (length (before .ends)) (c .ends), many));
+          ordered = λ j l.
+              let p = part-of j l in
+              rw (
+                c .endsHeld,
+                padded-beginning (length (before .ends)) (c .ends) j (omega (arith, p .many)),
+                padded-at (length (before .ends)) (c .ends) j (omega (arith, p .many)),
+              )
+              (p .begins);
+          within = λ j l.
+              let p = part-of j l in
+              rw (c .endsHeld, c .plansHeld, padded-at (length (before .ends)) (c .ends) j (omega (arith, p .many)))
+              (omega (arith, p .within, padded-long (length (before .plans)) (c .plans)));
+        },
+        rw (c .picksHeld) (omega (arith, c .pickCount, padded-long (length (before .picks)) (c .picks))),
+      )
+
+  pub holds : VerdictMeans t before after answer → Holds answer (members t) (after .plans) (after .ends) (after .picks)
+  holds = at (verdict t (room before))
+    where
+      at : (f : Answer Finding) → VerdictIs t before after answer f → Holds answer (members t) (after .plans) (after .ends) (after .picks)
+      at (refused k) m = rw (m .0) tt
+      at (gives (unsolvable i)) m = rw (m .0) tt
+      at (gives (robust c)) m = rw (m .0) tt
+      at (gives (notRobust u)) m = rw (m .1) (conflict-holds (m .0) (length (listedFor t before)) (m .3))
+
+  -- the bytes that are put are the file of the answer
+  pub reports : before ≡ lentFor t → VerdictMeans t before after answer → (n : ℕ) → n ≡ members t → (out out′ : List ℕ) (r : ℕ)
+      → Put out 0 (file answer n (after .plans) (after .ends) (after .picks)) out′ r → (r ≤ length out′) × Reports t (take r out′)
+  reports lent means n e out out′ r p = (
+    put-within p,
+    record {
+      answer = answer;
+      after = after;
+      means = subst (λ (l : Lent). VerdictMeans t l after answer) lent means;
+      lines = p .held ∙ ap (λ (k : ℕ). file answer k (after .plans) (after .ends) (after .picks)) e;
+    },
+  )
+
+  -- the file fits
+  pub file-fits : check t ≡ 0 → before ≡ lentFor t → length (after .plans) ≡ length (before .plans) → length (after .picks) ≡ length (before .picks)
+      → mostFile (1 + members t + length (after .plans) + length (after .picks)) ≤ mostBytes
+  unfolding lentFor
+  file-fits ok lent p q =
+      let e : length (before .plans) ≡ C t + members t * K t = ap (λ (l : Lent). length (l .plans)) lent ∙ length-replicate {A = ℕ} (C t + members t * K t) 0 in
+      let f : length (before .picks) ≡ C t = ap (λ (l : Lent). length (l .picks)) lent ∙ length-replicate {A = ℕ} (C t) 0 in
+      let g : configurationWords / (members t + 1) ≡ C t = rw add-one in
+      omega (arith, rows-most (members t), configurations-most (members t) (accepted t ok .some-members), accepted t ok .few-members)
+
+-- ---- the reader
+
+-- every record of a text gives five words
+words-length : (rs : List (List ℕ)) → all isRecord rs ≡ true → length (flatten (map (λ r. map number (fields r)) rs)) ≡ rowWidth * length rs
+unfolding all isRecord flatten
+words-length [] h = refl
+words-length (r ∷ rs) h =
+    let (a, b) = and-elim (isRecord r) (all isRecord rs) h in
+    omega (
+      arith,
+      length-append (map number (fields r)) (flatten (map (λ r. map number (fields r)) rs)),
+      length-map (fields r) number,
+      eqb-true (length (fields r)) rowWidth (and-elim (eqb (length (fields r)) rowWidth) (all isField (fields r)) a .0),
+      words-length rs b,
+    )
+
+-- the words of a text that is read
+pub record Words (text words out : List ℕ) (n : ℕ) : Type 0 where
+  pub answer : readText text words .answer ≡ gives n
+  pub task : check (textWords text) ≡ 0
+  pub room : rowWidth * n ≤ length out
+  pub words-read : take (rowWidth * n) out ≡ textWords text
+
+module _ (text words out : List ℕ) (long : mostWords ≤ length words) (r : TextRead) (e : reading r out ≡ readText text words) where
+  pub words-of : (n : ℕ) → r ≡ Records n → Words text words out n
+  unfolding readText textWords isText
+  words-of n f =
+      let g : reading (Records n) out ≡ readText text words = subst (λ (q : TextRead). reading q out ≡ readText text words) f e in
+      let (x, h) = unrefused (14 if ltb (length words) mostWords) ((15 if not (isText text)) else check (textWords text)) _ g in
+      let (y, z) = h in
+      let (a, k) = else-both (15 if not (isText text)) (check (textWords text)) y in
+      let count : n ≡ length (records text) = gives-inj (ap (λ (q : Reading). q .answer) z) in
+      let held : out ≡ padded (length words) (textWords text) = ap (λ (q : Reading). q .words) z in
+      let size : length (textWords text) ≡ rowWidth * length (records text) = words-length (records text) (and-elim (leb (length (records text)) mostRecords) _ (if-not-true 14 _ a) .1) in
+      let same : length (textWords text) ≡ rowWidth * n = omega arith in
+      record {
+        answer = sym (ap (λ (q : Reading). q .answer) g);
+        task = k;
+        room = rw held (omega (arith, length-append (textWords text) (replicate (length words - length (textWords text)) 0)));
+        words-read = rw held (take-at (textWords text) (replicate (length words - length (textWords text)) 0) (rowWidth * n) same);
+      }
+    where
+      unrefused : (a b : ℕ) (q : Reading) → reading (Records n) out ≡ readUnless a b words q → (a ≡ 0) × ((b ≡ 0) × (reading (Records n) out ≡ q))
+      unrefused (suc a) b q g = absurd (refused-gives (sym (ap (λ (q : Reading). q .answer) g)))
+      unrefused zero (suc b) q g = absurd (refused-gives (sym (ap (λ (q : Reading). q .answer) g)))
+      unrefused zero zero q g = (refl, (refl, g))
+
+module _ (text words out : List ℕ) (zeros : words ≡ replicate mostWords 0) (r : TextRead) (e : reading r out ≡ readText text words) (bytes : List ℕ) where
+  answered : readText text words .answer ≡ readText text (replicate mostWords 0) .answer
+  answered = ap (λ (w : List ℕ). readText text w .answer) zeros
+
+  pub prints-task : (n : ℕ) → Words text words out n → Reports (take (rowWidth * n) out) bytes → Prints text bytes
+  unfolding Prints
+  prints-task n w p =
+      subst (λ (a : Answer ℕ). PrintsFor a text bytes) (sym (w .answer) ∙ answered) (subst (λ (t : List ℕ). Reports t bytes) (w .words-read) p)
+
+  pub prints-refusal : (k : ℕ) → r ≡ Refused k → bytes ≡ header ++ line (word "refused") k → Prints text bytes
+  unfolding Prints
+  prints-refusal k f p =
+      let a : refused k ≡ readText text words .answer = ap (λ (q : TextRead). reading q out .answer) (sym f) ∙ ap (λ (q : Reading). q .answer) e in
+      subst (λ (a : Answer ℕ). PrintsFor a text bytes) (a ∙ answered) p

@@ -1,0 +1,60 @@
+-- Document 01, "Text and verdict program": what the program lends the verdict, and the file that it makes of a text.
+use mathlib.Core.Path.{_≡_}
+use mathlib.Core.List.{List, _++_}
+use Prim.Native.Nat.{ℕ, _+_, _*_}
+use lib.ListN.{replicate}
+use Rattle.semantics.specs.Base.{Answer, refused, gives}
+use Rattle.semantics.specs.Task.{members}
+use Rattle.semantics.specs.Text.{textWords, readText}
+use Rattle.semantics.specs.Verdict.{Verdict, Failing, Lent, localRows, configurationRows, VerdictMeans}
+use Rattle.text.specs.Post.{mostWords}
+use Rattle.report.specs.File.{word, header, line, file}
+use Rattle.report.specs.Put.{mostFile}
+
+-- the words of the local table
+abbrev pub localWords : ℕ
+localWords = 4096
+
+-- the words of the configuration table
+abbrev pub configurationWords : ℕ
+configurationWords = 8192
+
+-- K and C of the task with these tables
+abbrev pub K : List ℕ → ℕ
+K t = localRows t localWords
+
+abbrev pub C : List ℕ → ℕ
+C t = configurationRows t configurationWords
+
+-- the slices that the verdict is lent, all zero: the two tables, and the others just long enough
+unfoldable pub lentFor : List ℕ → Lent
+lentFor t =
+    record {
+      localTable = replicate localWords 0;
+      marks = replicate (members t * K t) 0;
+      configurationTable = replicate configurationWords 0;
+      trail = replicate (2 * C t) 0;
+      plans = replicate (C t + members t * K t) 0;
+      ends = replicate (members t) 0;
+      picks = replicate (C t) 0;
+    }
+
+-- the bytes are the file of the verdict's answer on the task
+pub record Reports (t bytes : List ℕ) : Type 0 where
+  pub answer : Answer (Verdict Failing)
+  pub after : Lent
+  pub means : VerdictMeans t (lentFor t) after answer
+  pub lines : bytes ≡ file answer (members t) (after .plans) (after .ends) (after .picks)
+
+-- the reader's refusal, or the verdict on the task that the text writes
+abbrev pub PrintsFor : Answer ℕ → List ℕ → List ℕ → Type 0
+PrintsFor (refused k) text bytes = bytes ≡ header ++ line (word "refused") k
+PrintsFor (gives r) text bytes = Reports (textWords text) bytes
+
+-- the program: a text in, the bytes of its verdict file out
+unfoldable pub Prints : List ℕ → List ℕ → Type 0
+Prints text bytes = PrintsFor (readText text (replicate mostWords 0) .answer) text bytes
+
+-- the bytes of the longest file: the verdict's line, eight plan lines, and lines for as many actions and picks as the slices hold
+abbrev pub mostBytes : ℕ
+mostBytes = mostFile (1 + 8 + 8192 + 4096)

@@ -1,0 +1,94 @@
+// The verdict program on slices: the text of a task in, the verdict file out.
+ghost use mathlib.Core.Path.{_≡_};
+ghost use Prim.Native.Nat.{_≤_};
+ghost use lib.ListN.{length, take, replicate};
+ghost use Rattle.semantics.specs.Task.{check};
+ghost use Rattle.verdict.specs.Value.{lentOf};
+ghost use Rattle.text.specs.Post.{mostWords};
+ghost use Rattle.program.specs.Program.{lentFor, Reports, Prints, mostBytes};
+use text::TextRead;
+
+// The words of the longest text.
+const WORDS: usize = 5 * 265;
+
+const LOCAL_WORDS: usize = 4096;
+
+const CONFIGURATION_WORDS: usize = 8192;
+
+// The bytes of the longest text: 265 records of five fields of 20 digits, four commas and CR LF.
+pub const MOST_TEXT: usize = 265 * (5 * 20 + 4 + 2);
+
+// The bytes of the longest file: the line of column names, then lines of at most 33 bytes, one for the verdict, eight for plans, and as many for actions and picks
+// as the slices hold.
+pub const MOST_BYTES: usize = 16 + 33 * (1 + 8 + 8192 + 4096);
+
+// The file of the verdict on an accepted task, with zero slices of the program's lengths.
+fn judge(
+    t: &[u64],
+    local: &mut [u64],
+    marks: &mut [u8],
+    confs: &mut [u64],
+    trail: &mut [u64],
+    plans: &mut [u16],
+    ends: &mut [u64],
+    picks: &mut [u8],
+    out: &mut [u8],
+) -> usize
+    requires { ⌜ check (now t) ≡ 0 ⌝ }
+    requires { ⌜ lentOf (now local) (now marks) (now confs) (now trail) (now plans) (now ends) (now picks) ≡ lentFor (now t) ⌝ }
+    requires { ⌜ mostBytes ≤ length (now out) ⌝ }
+    ensures { λ r. ⌜ (r ≤ length (now (out .entry))) × Reports (now (t .entry)) (take r (now (out .exit))) ⌝ }
+{
+    let n = task::members(t);
+    let answer = verdict::verdict(t, local, marks, confs, trail, plans, ends, picks);
+    report::put_file(out, answer, n, plans, ends, picks)
+}
+
+// The same, with slices of its own.
+fn of_task(t: &[u64], out: &mut [u8]) -> usize
+    requires { ⌜ check (now t) ≡ 0 ⌝ }
+    requires { ⌜ mostBytes ≤ length (now out) ⌝ }
+    ensures { λ r. ⌜ (r ≤ length (now (out .entry))) × Reports (now (t .entry)) (take r (now (out .exit))) ⌝ }
+{
+    let n = task::members(t);
+    let rows = n * (LOCAL_WORDS / n);
+    let most = CONFIGURATION_WORDS / (n + 1);
+    let mut local = [0u64; LOCAL_WORDS];
+    let mut marks = [0u8; 4096];
+    let mut confs = [0u64; CONFIGURATION_WORDS];
+    let mut trail = [0u64; 8192];
+    let mut plans = [0u16; 8192];
+    let mut ends = [0u64; 8];
+    let mut picks = [0u8; 4096];
+    judge(
+        t,
+        &mut local,
+        &mut marks[..rows],
+        &mut confs,
+        &mut trail[..2 * most],
+        &mut plans[..most + rows],
+        &mut ends[..n],
+        &mut picks[..most],
+        out,
+    )
+}
+
+// The file for a text, whose words go to the slice.
+fn of_text(text: &[u8], words: &mut [u64], out: &mut [u8]) -> usize
+    requires { ⌜ now words ≡ replicate mostWords 0 ⌝ }
+    requires { ⌜ mostBytes ≤ length (now out) ⌝ }
+    ensures { λ r. ⌜ (r ≤ length (now (out .entry))) × Prints (now (text .entry)) (take r (now (out .exit))) ⌝ }
+{
+    match text::read(text, words) {
+        TextRead::Records(n) => of_task(&words[..5 * n], out),
+        TextRead::Refused(k) => report::put_refusal(out, k),
+    }
+}
+
+// The program, for every text: the file stands in the first bytes, and the answer is their number.
+pub fn verdict_file(text: &[u8], out: &mut [u8; MOST_BYTES]) -> usize
+    ensures { λ r. ⌜ (r ≤ length (now (out .exit))) × Prints (now (text .entry)) (take r (now (out .exit))) ⌝ }
+{
+    let mut words = [0u64; WORDS];
+    of_text(text, &mut words, out)
+}

@@ -1,0 +1,155 @@
+-- The proof of the cycle of calls {put_number}. The measure is the number. Assumes nothing.
+use borrow.Author.Needs.{needs}
+use mathlib.Core.Path.{sym, subst}
+use mathlib.Core.List.{List, [], _∷_}
+use Prim.Native.Nat.{ℕ, _+_, _/_, _%_, _<_}
+use native.Mathlib.Omega.{arith}
+use Rattle.text.specs.Written.{digits}
+use Rattle.report.specs.Put.{Room, Put}
+use Rattle.report.proofs.Laws.{put-then, room-first, room-then, digits-one, digits-more}
+use borrow.Fn.Kinds.{In}
+use borrow.Fn.PlainCycle.{Measures, is, falls, and}
+use Rattle.report.proofs.put_number.Reads as put-number
+use Rattle.report.proofs.put_number.Kinds as put-number-kinds
+use Rattle.report.proofs.+put_number.Lts-put_number as put-number-lts
+use Rattle.report.proofs.put_byte.Reads as put-byte-reads
+use Rattle.report.proofs.+put_number.{statement}
+use Rattle.report.proofs.+put_number.Tie.{close}
+
+abbrev μ-put-number : Measures 1 put-number-kinds.ps ℕ
+μ-put-number κs a = a .1 .1 .0
+
+abbrev put-number-at : ℕ → In 1 put-number-kinds.ps
+put-number-at t =
+    and 1 put-number-kinds.ps (is 1 put-number-kinds.ps μ-put-number t) put-number.Pre
+
+abbrev put-number-below : ℕ → In 1 put-number-kinds.ps
+put-number-below t =
+    and 1 put-number-kinds.ps (falls 1 put-number-kinds.ps _<_ μ-put-number t) put-number.Pre
+
+put-number-cast-put-byte : (t : ℕ) → put-number-lts.Need-cast-put-byte (
+  put-byte-reads.Asked,
+  put-byte-reads.Learnt,
+  put-number-below t,
+  put-number.Post,
+) (put-number-at t) put-number.Post
+put-number-cast-put-byte t c = search needs
+
+put-number-add-put-byte : (t : ℕ) → put-number-lts.Need-add-put-byte (
+  put-byte-reads.Asked,
+  put-byte-reads.Learnt,
+  put-number-below t,
+  put-number.Post,
+) (put-number-at t) put-number.Post
+put-number-add-put-byte t c = search needs
+
+put-number-put-byte-requires : (t : ℕ) → put-number-lts.Need-put-byte-requires (
+  put-byte-reads.Asked,
+  put-byte-reads.Learnt,
+  put-number-below t,
+  put-number.Post,
+) (put-number-at t) put-number.Post
+put-number-put-byte-requires t c κs =
+    let s = c .before .before .before in
+    subst (λ (l : List ℕ). Room (s .args .out .now) (s .args .at) l) (digits-one (s .args .v) (omega arith)) (s .pre .1)
+
+put-number-same-length : (t : ℕ) → put-number-lts.Need-same-length (
+  put-byte-reads.Asked,
+  put-byte-reads.Learnt,
+  put-number-below t,
+  put-number.Post,
+) (put-number-at t) put-number.Post
+put-number-same-length t c = search needs
+
+put-number-returns : (t : ℕ) → put-number-lts.Need-returns (
+  put-byte-reads.Asked,
+  put-byte-reads.Learnt,
+  put-number-below t,
+  put-number.Post,
+) (put-number-at t) put-number.Post
+put-number-returns t c =
+    let f = c .before .before in
+    let s = f .before .before .before .before in
+    subst (λ (l : List ℕ). Put (s .args .out .now) (s .args .at) l (f .put-byte .last .0) (f .put-byte .result)) (sym (digits-one (s .args .v) (omega arith)))
+    (f .put-byte .ensures)
+
+put-number-put-number-requires : (t : ℕ) → put-number-lts.Need-put-number-requires (
+  put-byte-reads.Asked,
+  put-byte-reads.Learnt,
+  put-number-below t,
+  put-number.Post,
+) (put-number-at t) put-number.Post
+put-number-put-number-requires t c κs =
+    let s = c .before .before .before in (
+      omega (arith, s .pre .0),
+      room-first (digits (s .args .v / 10)) ((48 + s .args .v % 10) ∷ []) (subst (λ (l : List ℕ). Room (s .args .out .now) (s .args .at) l) (digits-more (s .args .v) (omega arith)) (s .pre .1)),
+    )
+
+put-number-cast-put-byte-2 : (t : ℕ) → put-number-lts.Need-cast-put-byte-2 (
+  put-byte-reads.Asked,
+  put-byte-reads.Learnt,
+  put-number-below t,
+  put-number.Post,
+) (put-number-at t) put-number.Post
+put-number-cast-put-byte-2 t c = search needs
+
+put-number-add-put-byte-2 : (t : ℕ) → put-number-lts.Need-add-put-byte-2 (
+  put-byte-reads.Asked,
+  put-byte-reads.Learnt,
+  put-number-below t,
+  put-number.Post,
+) (put-number-at t) put-number.Post
+put-number-add-put-byte-2 t c = search needs
+
+put-number-put-byte-requires-2 : (t : ℕ) → put-number-lts.Need-put-byte-requires-2 (
+  put-byte-reads.Asked,
+  put-byte-reads.Learnt,
+  put-number-below t,
+  put-number.Post,
+) (put-number-at t) put-number.Post
+put-number-put-byte-requires-2 t c κs =
+    let f = c .before .before .before in
+    let s = f .before .before .before .before in
+    room-then (subst (λ (l : List ℕ). Room (s .args .out .now) (s .args .at) l) (digits-more (s .args .v) (omega arith)) (s .pre .1)) (f .put-number .ensures) (f .put-number .kept .0)
+
+put-number-same-length-2 : (t : ℕ) → put-number-lts.Need-same-length-2 (
+  put-byte-reads.Asked,
+  put-byte-reads.Learnt,
+  put-number-below t,
+  put-number.Post,
+) (put-number-at t) put-number.Post
+put-number-same-length-2 t c = search needs
+
+put-number-returns-2 : (t : ℕ) → put-number-lts.Need-returns-2 (
+  put-byte-reads.Asked,
+  put-byte-reads.Learnt,
+  put-number-below t,
+  put-number.Post,
+) (put-number-at t) put-number.Post
+put-number-returns-2 t c =
+    let g = c .before .before in
+    let f = g .before .before .before .before in
+    let s = f .before .before .before .before in
+    subst (λ (l : List ℕ). Put (s .args .out .now) (s .args .at) l (g .put-byte2 .last .0) (g .put-byte2 .result)) (sym (digits-more (s .args .v) (omega arith)))
+    (put-then (f .put-number .ensures) (g .put-byte2 .ensures))
+
+pub +put-number-spec : {M : Type 1} → statement M
++put-number-spec = close μ-put-number λ t. put-number-lts.spec (
+  put-byte-reads.Asked,
+  put-byte-reads.Learnt,
+  put-number-below t,
+  put-number.Post,
+)
+    (put-number-at t)
+    put-number.Post
+    (put-number-cast-put-byte t)
+    (put-number-add-put-byte t)
+    (put-number-put-byte-requires t)
+    (put-number-same-length t)
+    (put-number-returns t)
+    (put-number-put-number-requires t)
+    (put-number-cast-put-byte-2 t)
+    (put-number-add-put-byte-2 t)
+    (put-number-put-byte-requires-2 t)
+    (put-number-same-length-2 t)
+    (put-number-returns-2 t)

@@ -1,0 +1,37 @@
+-- `report::put_conflict` meets its contract. Assumes nothing.
+use borrow.Author.Needs.{needs}
+use Rattle.semantics.specs.Base.{range}
+use Rattle.report.specs.File.{word, lines, plansLines}
+use Rattle.report.proofs.Laws.{put-then, room-first, room-then}
+use Rattle.report.proofs.put_conflict.Statement.{statement}
+use Rattle.report.proofs.put_conflict.Tie as tie
+
+put-plans-requires : tie.Need-put-plans-requires
+unfolding word range
+put-plans-requires c κs =
+    let s = c .before .before .before .before .before in
+    let a = s .args in
+    (s .pre .0, room-first (plansLines (a .n) (a .plans .now) (a .ends .now)) (lines (word "pick") (a .picks .now)) (s .pre .1))
+
+slice-aggregate-put-picks : tie.Need-slice-aggregate-put-picks
+slice-aggregate-put-picks c = search needs
+
+put-picks-requires : tie.Need-put-picks-requires
+unfolding word range
+put-picks-requires c κs =
+    let f = c .before .before .before .before in
+    room-then (f .before .before .before .before .before .before .pre .1) (f .put-plans .ensures) (f .put-plans .kept .0)
+
+same-length : tie.Need-same-length
+same-length c = search needs
+
+returns : tie.Need-returns
+unfolding word range
+returns c =
+    let g = c .before .before in
+    put-then (g .before .before .before .before .before .put-plans .ensures) (g .put-picks .ensures)
+
+pub put-conflict-spec : {M : Type 1} → statement M
+put-conflict-spec =
+    tie.close
+    (tie.spec put-plans-requires slice-aggregate-put-picks put-picks-requires same-length returns)

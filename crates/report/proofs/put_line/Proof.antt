@@ -1,0 +1,45 @@
+-- `report::put_line` meets its contract. Assumes nothing.
+use native.Mathlib.Omega.{arith}
+use borrow.Author.Needs.{needs}
+use Rattle.report.proofs.Laws.{put-then, line-length}
+use Rattle.report.proofs.put_line.Statement.{statement}
+use Rattle.report.proofs.put_line.Tie as tie
+
+put-requires : tie.Need-put-requires
+put-requires c κs = let a = c .before .before .before .args in omega (arith, line-length (a .word .now) (a .v))
+
+put-byte-requires : tie.Need-put-byte-requires
+put-byte-requires c κs = let a = c .before .before .before .before .before .before .before .args in omega (arith, line-length (a .word .now) (a .v))
+
+put-number-requires : tie.Need-put-number-requires
+put-number-requires c κs = let a = c .before .before .before .before .before .before .before .before .before .before .before .args in omega (arith, line-length (a .word .now) (a .v))
+
+put-byte-requires-2 : tie.Need-put-byte-requires-2
+put-byte-requires-2 c κs = let a = c .before .before .before .before .before .before .before .before .before .before .before .before .before .before .before .args in omega (arith, line-length (a .word .now) (a .v))
+
+put-byte-requires-3 : tie.Need-put-byte-requires-3
+put-byte-requires-3 c κs = let a = c .before .before .before .before .before .before .before .before .before .before .before .before .before .before .before .before .before .before .before .args in omega (arith, line-length (a .word .now) (a .v))
+
+same-length : tie.Need-same-length
+same-length c = search needs
+
+returns : tie.Need-returns
+returns c =
+    let lf = c .before .before in
+    let cr = lf .before .before .before .before in
+    let number = cr .before .before .before .before in
+    let comma = number .before .before .before .before in
+    let word = comma .before .before .before .before in
+    put-then (word .put .ensures) (put-then (comma .put-byte .ensures) (put-then (number .put-number .ensures) (put-then (cr .put-byte2 .ensures) (lf .put-byte3 .ensures))))
+
+pub put-line-spec : {M : Type 1} → statement M
+put-line-spec =
+    tie.close
+    (tie.spec
+    put-requires
+    put-byte-requires
+    put-number-requires
+    put-byte-requires-2
+    put-byte-requires-3
+    same-length
+    returns)

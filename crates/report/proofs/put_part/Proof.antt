@@ -1,0 +1,58 @@
+-- `report::put_part` meets its contract. Assumes nothing.
+use mathlib.Core.Path.{sym, subst}
+use mathlib.Core.List.{List}
+use Prim.Native.Nat.{ℕ}
+use borrow.Author.Needs.{needs}
+use Rattle.semantics.specs.Base.{range}
+use Rattle.report.specs.File.{word, lines}
+use Rattle.report.specs.Put.{Room, Put}
+use Rattle.plans.proofs.Laws.{part-slice}
+use Rattle.report.proofs.put_part.Statement.{statement}
+use Rattle.report.proofs.put_part.Tie as tie
+
+slice-aggregate-put-actions : tie.Need-slice-aggregate-put-actions
+slice-aggregate-put-actions c = search needs
+
+mul-put-actions : tie.Need-mul-put-actions
+mul-put-actions c = search needs
+
+sub-put-actions : tie.Need-sub-put-actions
+sub-put-actions c = search needs
+
+part-put-actions-start : tie.Need-part-put-actions-start
+part-put-actions-start c = search needs
+
+part-put-actions-end : tie.Need-part-put-actions-end
+part-put-actions-end c = search needs
+
+put-actions-requires : tie.Need-put-actions-requires
+unfolding word range
+put-actions-requires c κs =
+    let s = c .before .before .before .before .before in
+    let a = s .args in
+    subst (λ (l : List ℕ). Room (a .out .now) (a .at) (lines (word "action") l)) (sym (part-slice (a .from) (a .to) (a .plans .now) (s .pre .0))) (s .pre .1 .1)
+
+same-length : tie.Need-same-length
+same-length c = search needs
+
+returns : tie.Need-returns
+unfolding word range
+returns c =
+    let f = c .before .before in
+    let s = f .before .before .before .before .before .before in
+    let a = s .args in
+    subst (λ (l : List ℕ). Put (a .out .now) (a .at) (lines (word "action") l) (f .put-actions .last .0) (f .put-actions .result)) (part-slice (a .from) (a .to) (a .plans .now) (s .pre .0))
+    (f .put-actions .ensures)
+
+pub put-part-spec : {M : Type 1} → statement M
+put-part-spec =
+    tie.close
+    (tie.spec
+    slice-aggregate-put-actions
+    mul-put-actions
+    sub-put-actions
+    part-put-actions-start
+    part-put-actions-end
+    put-actions-requires
+    same-length
+    returns)

@@ -1,0 +1,325 @@
+// The verdict file: the lines of an answer, put into a lent slice of bytes. Each function puts its bytes from the place `at` on and answers the place after them.
+ghost use mathlib.Core.Path.{_≡_};
+ghost use mathlib.Core.List.{[], _∷_, _++_};
+ghost use Prim.Native.Nat.{_+_, _≤_, _<_};
+ghost use lib.ListN.{length, getD, take};
+ghost use lib.Seq.{slice};
+ghost use Rattle.semantics.specs.Run.{Fault, beginning};
+ghost use Rattle.text.specs.Written.{digits};
+ghost use Rattle.verdict.specs.Value.{failing, answerOf};
+ghost use Rattle.report.specs.File.{word, header, line, lines, planLines, plansLines, conflictLines, body, file};
+ghost use Rattle.report.specs.Put.{mostLine, mostFile, Room, Put, Inside, Holds, conflictOf};
+use verdict::VerdictAnswer;
+
+fn put_byte(out: &mut [u8], at: usize, byte: u8) -> usize
+    requires { ⌜ Room (now out) at (byte ∷ []) ⌝ }
+    ensures { λ r. ⌜ Put (now (out .entry)) at (byte ∷ []) (now (out .exit)) r ⌝ }
+{
+    out[at] = byte;
+    at + 1
+}
+
+fn put(out: &mut [u8], at: usize, bytes: &[u8]) -> usize
+    requires { ⌜ Room (now out) at (now bytes) ⌝ }
+    ensures { λ r. ⌜ Put (now (out .entry)) at (now (bytes .entry)) (now (out .exit)) r ⌝ }
+{
+    let mut next = at;
+    let mut i = 0;
+    while i < bytes.len() {
+        next = put_byte(out, next, bytes[i]);
+        i += 1;
+    }
+    next
+}
+
+// In base ten.
+fn put_number(out: &mut [u8], at: usize, v: u64) -> usize
+    requires { ⌜ Room (now out) at (digits v) ⌝ }
+    ensures { λ r. ⌜ Put (now (out .entry)) at (digits v) (now (out .exit)) r ⌝ }
+{
+    if v < 10 {
+        return put_byte(out, at, b'0' + v as u8);
+    }
+    let next = put_number(out, at, v / 10);
+    put_byte(out, next, b'0' + (v % 10) as u8)
+}
+
+fn put_line(out: &mut [u8], at: usize, word: &[u8], v: u64) -> usize
+    requires { ⌜ Room (now out) at (line (now word) v) ⌝ }
+    ensures { λ r. ⌜ Put (now (out .entry)) at (line (now (word .entry)) v) (now (out .exit)) r ⌝ }
+{
+    let comma = put(out, at, word);
+    let number = put_byte(out, comma, b',');
+    let cr = put_number(out, number, v);
+    let lf = put_byte(out, cr, b'\r');
+    put_byte(out, lf, b'\n')
+}
+
+fn wide(x: u16) -> u64
+    ensures { λ r. ⌜ r ≡ x ⌝ }
+{
+    x as u64
+}
+
+fn wider(x: u8) -> u64
+    ensures { λ r. ⌜ r ≡ x ⌝ }
+{
+    x as u64
+}
+
+// A line for each action of a plan.
+fn put_actions(out: &mut [u8], at: usize, word: &[u8], plan: &[u16]) -> usize
+    requires { ⌜ Room (now out) at (lines (now word) (now plan)) ⌝ }
+    ensures { λ r. ⌜ Put (now (out .entry)) at (lines (now (word .entry)) (now (plan .entry))) (now (out .exit)) r ⌝ }
+{
+    let mut next = at;
+    let mut i = 0;
+    while i < plan.len() {
+        next = put_line(out, next, word, wide(plan[i]));
+        i += 1;
+    }
+    next
+}
+
+// A line for each pick.
+fn put_picks(out: &mut [u8], at: usize, word: &[u8], picks: &[u8]) -> usize
+    requires { ⌜ Room (now out) at (lines (now word) (now picks)) ⌝ }
+    ensures { λ r. ⌜ Put (now (out .entry)) at (lines (now (word .entry)) (now (picks .entry))) (now (out .exit)) r ⌝ }
+{
+    let mut next = at;
+    let mut i = 0;
+    while i < picks.len() {
+        next = put_line(out, next, word, wider(picks[i]));
+        i += 1;
+    }
+    next
+}
+
+// A line for each action of a part of the plan slice.
+fn put_part(out: &mut [u8], at: usize, plans: &[u16], from: usize, to: usize) -> usize
+    requires { ⌜ from ≤ to ⌝ }
+    requires { ⌜ to ≤ length (now plans) ⌝ }
+    requires { ⌜ Room (now out) at (lines (word "action") (slice from to (now plans))) ⌝ }
+    ensures { λ r. ⌜ Put (now (out .entry)) at (lines (word "action") (slice from to (now (plans .entry)))) (now (out .exit)) r ⌝ }
+{
+    put_actions(out, at, b"action", &plans[from..to])
+}
+
+// Where member i's plan begins.
+fn beginning(ends: &[u64], i: usize) -> usize
+    requires { ⌜ i < length (now ends) ⌝ }
+    ensures { λ r. ⌜ r ≡ beginning (now (ends .entry)) i ⌝ }
+{
+    if i == 0 {
+        return 0;
+    }
+    ends[i - 1] as usize
+}
+
+// Where member i's plan ends.
+fn end(ends: &[u64], i: usize) -> usize
+    requires { ⌜ i < length (now ends) ⌝ }
+    ensures { λ r. ⌜ r ≡ getD (now (ends .entry)) i 0 ⌝ }
+{
+    ends[i] as usize
+}
+
+fn put_plan(out: &mut [u8], at: usize, n: usize, plans: &[u16], ends: &[u64], i: usize) -> usize
+    requires { ⌜ i < n ⌝ }
+    requires { ⌜ Inside n (now plans) (now ends) ⌝ }
+    requires { ⌜ Room (now out) at (planLines (now plans) (now ends) i) ⌝ }
+    ensures { λ r. ⌜ Put (now (out .entry)) at (planLines (now (plans .entry)) (now (ends .entry)) i) (now (out .exit)) r ⌝ }
+{
+    let next = put_line(out, at, b"plan", i as u64);
+    put_part(out, next, plans, beginning(ends, i), end(ends, i))
+}
+
+fn put_plans(out: &mut [u8], at: usize, n: usize, plans: &[u16], ends: &[u64]) -> usize
+    requires { ⌜ Inside n (now plans) (now ends) ⌝ }
+    requires { ⌜ Room (now out) at (plansLines n (now plans) (now ends)) ⌝ }
+    ensures { λ r. ⌜ Put (now (out .entry)) at (plansLines n (now (plans .entry)) (now (ends .entry))) (now (out .exit)) r ⌝ }
+{
+    let mut next = at;
+    let mut i = 0;
+    while i < n {
+        next = put_plan(out, next, n, plans, ends, i);
+        i += 1;
+    }
+    next
+}
+
+fn put_conflict(
+    out: &mut [u8],
+    at: usize,
+    n: usize,
+    plans: &[u16],
+    ends: &[u64],
+    picks: &[u8],
+) -> usize
+    requires { ⌜ Inside n (now plans) (now ends) ⌝ }
+    requires { ⌜ Room (now out) at (conflictLines n (now plans) (now ends) (now picks)) ⌝ }
+    ensures { λ r. ⌜ Put (now (out .entry)) at (conflictLines n (now (plans .entry)) (now (ends .entry)) (now (picks .entry))) (now (out .exit)) r ⌝ }
+{
+    let next = put_plans(out, at, n, plans, ends);
+    put_picks(out, next, b"pick", picks)
+}
+
+// The line of column names.
+fn put_header(out: &mut [u8]) -> usize
+    requires { ⌜ Room (now out) 0 header ⌝ }
+    ensures { λ r. ⌜ Put (now (out .entry)) 0 header (now (out .exit)) r ⌝ }
+{
+    put(out, 0, b"verdict,number\r\n")
+}
+
+fn put_refused(out: &mut [u8], at: usize, refusal: u64) -> usize
+    requires { ⌜ at + mostLine ≤ length (now out) ⌝ }
+    ensures { λ r. ⌜ Put (now (out .entry)) at (line (word "refused") refusal) (now (out .exit)) r ⌝ }
+{
+    put_line(out, at, b"refused", refusal)
+}
+
+fn put_unsolvable(out: &mut [u8], at: usize, member: usize) -> usize
+    requires { ⌜ at + mostLine ≤ length (now out) ⌝ }
+    ensures { λ r. ⌜ Put (now (out .entry)) at (line (word "unsolvable") member) (now (out .exit)) r ⌝ }
+{
+    put_line(out, at, b"unsolvable", member as u64)
+}
+
+fn put_robust(out: &mut [u8], at: usize, count: usize) -> usize
+    requires { ⌜ at + mostLine ≤ length (now out) ⌝ }
+    ensures { λ r. ⌜ Put (now (out .entry)) at (line (word "robust") count) (now (out .exit)) r ⌝ }
+{
+    put_line(out, at, b"robust", count as u64)
+}
+
+// A fault's line, then the conflict with so many picks.
+fn put_fault(
+    out: &mut [u8],
+    at: usize,
+    name: &[u8],
+    v: u64,
+    n: usize,
+    plans: &[u16],
+    ends: &[u64],
+    picks: &[u8],
+    count: usize,
+) -> usize
+    requires { ⌜ Inside n (now plans) (now ends) ⌝ }
+    requires { ⌜ count ≤ length (now picks) ⌝ }
+    requires { ⌜ length (now name) ≤ 10 ⌝ }
+    requires { ⌜ Room (now out) (at + mostLine) (conflictLines n (now plans) (now ends) (take count (now picks))) ⌝ }
+    ensures { λ r. ⌜ Put (now (out .entry)) at (line (now (name .entry)) v ++ conflictLines n (now (plans .entry)) (now (ends .entry)) (take count (now (picks .entry)))) (now (out .exit)) r ⌝ }
+{
+    let next = put_line(out, at, name, v);
+    put_conflict(out, next, n, plans, ends, &picks[..count])
+}
+
+fn put_collision(
+    out: &mut [u8],
+    at: usize,
+    k: usize,
+    n: usize,
+    plans: &[u16],
+    ends: &[u64],
+    picks: &[u8],
+) -> usize
+    requires { ⌜ Holds (failing Fault.collision k) n (now plans) (now ends) (now picks) ⌝ }
+    requires { ⌜ Room (now out) (at + mostLine) (conflictOf (failing Fault.collision k) n (now plans) (now ends) (now picks)) ⌝ }
+    ensures { λ r. ⌜ Put (now (out .entry)) at (body (failing Fault.collision k) n (now (plans .entry)) (now (ends .entry)) (now (picks .entry))) (now (out .exit)) r ⌝ }
+{
+    put_fault(
+        out,
+        at,
+        b"collision",
+        k as u64,
+        n,
+        plans,
+        ends,
+        picks,
+        k + 1,
+    )
+}
+
+fn put_deadlock(
+    out: &mut [u8],
+    at: usize,
+    k: usize,
+    n: usize,
+    plans: &[u16],
+    ends: &[u64],
+    picks: &[u8],
+) -> usize
+    requires { ⌜ Holds (failing Fault.deadlock k) n (now plans) (now ends) (now picks) ⌝ }
+    requires { ⌜ Room (now out) (at + mostLine) (conflictOf (failing Fault.deadlock k) n (now plans) (now ends) (now picks)) ⌝ }
+    ensures { λ r. ⌜ Put (now (out .entry)) at (body (failing Fault.deadlock k) n (now (plans .entry)) (now (ends .entry)) (now (picks .entry))) (now (out .exit)) r ⌝ }
+{
+    put_fault(out, at, b"deadlock", k as u64, n, plans, ends, picks, k)
+}
+
+fn put_missed(
+    out: &mut [u8],
+    at: usize,
+    member: usize,
+    k: usize,
+    n: usize,
+    plans: &[u16],
+    ends: &[u64],
+    picks: &[u8],
+) -> usize
+    requires { ⌜ Holds (failing (Fault.missed member) k) n (now plans) (now ends) (now picks) ⌝ }
+    requires { ⌜ Room (now out) (at + mostLine) (conflictOf (failing (Fault.missed member) k) n (now plans) (now ends) (now picks)) ⌝ }
+    ensures { λ r. ⌜ Put (now (out .entry)) at (body (failing (Fault.missed member) k) n (now (plans .entry)) (now (ends .entry)) (now (picks .entry))) (now (out .exit)) r ⌝ }
+{
+    put_fault(out, at, b"missed", member as u64, n, plans, ends, picks, k)
+}
+
+// The lines after the first.
+fn put_body(
+    out: &mut [u8],
+    at: usize,
+    answer: VerdictAnswer,
+    n: usize,
+    plans: &[u16],
+    ends: &[u64],
+    picks: &[u8],
+) -> usize
+    requires { ⌜ Holds (answerOf answer) n (now plans) (now ends) (now picks) ⌝ }
+    requires { ⌜ Room (now out) (at + mostLine) (conflictOf (answerOf answer) n (now plans) (now ends) (now picks)) ⌝ }
+    ensures { λ r. ⌜ Put (now (out .entry)) at (body (answerOf answer) n (now (plans .entry)) (now (ends .entry)) (now (picks .entry))) (now (out .exit)) r ⌝ }
+{
+    match answer {
+        VerdictAnswer::Refused(k) => put_refused(out, at, k),
+        VerdictAnswer::Unsolvable(i) => put_unsolvable(out, at, i),
+        VerdictAnswer::Collision(k) => put_collision(out, at, k, n, plans, ends, picks),
+        VerdictAnswer::Deadlock(k) => put_deadlock(out, at, k, n, plans, ends, picks),
+        VerdictAnswer::Missed(i, k) => put_missed(out, at, i, k, n, plans, ends, picks),
+        VerdictAnswer::Robust(count) => put_robust(out, at, count),
+    }
+}
+
+// The file of a refusal, from the slice's front on.
+pub fn put_refusal(out: &mut [u8], refusal: u64) -> usize
+    requires { ⌜ mostFile 1 ≤ length (now out) ⌝ }
+    ensures { λ r. ⌜ Put (now (out .entry)) 0 (header ++ line (word "refused") refusal) (now (out .exit)) r ⌝ }
+{
+    let next = put_header(out);
+    put_refused(out, next, refusal)
+}
+
+// The file of a verdict's answer on a task of n members, from the slice's front on.
+pub fn put_file(
+    out: &mut [u8],
+    answer: VerdictAnswer,
+    n: usize,
+    plans: &[u16],
+    ends: &[u64],
+    picks: &[u8],
+) -> usize
+    requires { ⌜ Holds (answerOf answer) n (now plans) (now ends) (now picks) ⌝ }
+    requires { ⌜ mostFile (1 + n + length (now plans) + length (now picks)) ≤ length (now out) ⌝ }
+    ensures { λ r. ⌜ Put (now (out .entry)) 0 (file (answerOf answer) n (now (plans .entry)) (now (ends .entry)) (now (picks .entry))) (now (out .exit)) r ⌝ }
+{
+    let next = put_header(out);
+    put_body(out, next, answer, n, plans, ends, picks)
+}
