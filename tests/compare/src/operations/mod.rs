@@ -26,7 +26,7 @@ pub fn any(random: &mut Random, checked: &impl Interface) -> Checked {
 }
 
 /// A task: mostly small, sometimes at the limits, damaged in `damaged` of a hundred cases.
-fn task_words(random: &mut Random, damaged: usize) -> Vec<u64> {
+pub fn task_words(random: &mut Random, damaged: usize) -> Vec<u64> {
     let mut words = match random.below(20) {
         0 => families::at_the_limits(random),
         _ => families::small(random),
