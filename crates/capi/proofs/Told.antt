@@ -2,15 +2,14 @@
 use mathlib.Core.Path.{_≡_, refl, sym, ap, ap₂, _∙_}
 use mathlib.Core.Bool.{Bool, true, false, not}
 use mathlib.Core.List.{List, [], _∷_, _++_, map}
-use Prim.Native.Nat.{ℕ, zero, suc, _+_, _≤_, _<_}
-use native.Mathlib.Nat.{add-zero, add-suc}
+use Prim.Native.Nat.{ℕ, zero, suc, _+_, _≤_}
+use native.Mathlib.Nat.{add-zero}
 use native.Mathlib.Omega.{arith}
-use lib.ListN.{length, getD, take}
+use lib.ListN.{length, getD}
 use lib.Seq.{slice, slice-empty, slice-cons, take-all}
 use lib.Dec.{eqb}
 use mir.Val.{boolByte}
 use Rattle.semantics.specs.Base.{range, _if_}
-use Rattle.semantics.specs.Step as Paper
 use Rattle.mask.specs.Number.{number}
 use Rattle.mask.specs.declared.Mask.{Mask}
 use Rattle.mask.specs.declared.Shared.{Shared}

@@ -1,5 +1,4 @@
 -- The numbers that each answer writes to `out`; a number that an answer does not have is 0.
-use mathlib.Core.Bool.{Bool}
 use mathlib.Core.List.{List, [], _∷_}
 use Prim.Native.Nat.{ℕ}
 use Rattle.semantics.specs.Base.{_if_}

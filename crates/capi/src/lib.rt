@@ -11,7 +11,6 @@ ghost use Rattle.semantics.specs.Step.{step};
 ghost use Rattle.semantics.specs.Solo.{soloReplay, soloSearch};
 ghost use Rattle.semantics.specs.Run.{jointReplay, pickOn};
 ghost use Rattle.semantics.specs.Text.{readText};
-ghost use Rattle.mask.specs.Number.{sharedNumber};
 ghost use Rattle.step.specs.Value.{decisionOf};
 ghost use Rattle.solo.specs.Value.{soloOf};
 ghost use Rattle.picks.specs.Value.{runOf, outcomeOf};

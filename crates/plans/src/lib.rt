@@ -10,7 +10,7 @@ ghost use Rattle.plans.specs.Parts.{memberRefusal};
 use solo::Solo;
 
 // Where member j's plan begins.
-fn beginning(ends: &[u64], j: usize) -> u64
+pub fn beginning(ends: &[u64], j: usize) -> u64
     requires { ⌜ j ≤ length (now ends) ⌝ }
     ensures { λ r. ⌜ r ≡ beginning (now (ends .entry)) j ⌝ }
 {

@@ -3,7 +3,7 @@ use mathlib.Core.Path.{_≡_, refl, sym, ap, ap₂, subst, _∙_}
 use mathlib.Core.Bool.{Bool, true, false, cond}
 use mathlib.Core.Logic.{⊎-elim}
 use mathlib.Core.List.{List, [], _∷_, _++_, map, flatten, append-assoc, append-nil}
-use Prim.Native.Nat.{ℕ, zero, suc, _+_, _-_, _*_, _/_, _%_, _^_, _≤_, _<_}
+use Prim.Native.Nat.{ℕ, zero, suc, _+_, _*_, _/_, _%_, _^_, _≤_, _<_}
 use native.Mathlib.Omega.{arith}
 use native.Mathlib.Numerals.{add-one}
 use native.Mathlib.Nat.{pow-suc}
@@ -11,7 +11,7 @@ use lib.ListN.{length, getD, take, drop, set, length-append, drop-of-length-le}
 use lib.Seq.{slice, take-suc-set, drop-cons, getD-drop, length-slice, length-take-le}
 use lib.Dec.{ltb}
 use borrow.Author.Tests.{ltb-false, lt-ltb, le-ltb}
-use Rattle.semantics.specs.Base.{range, upTo, Answer, refused, gives}
+use Rattle.semantics.specs.Base.{range, Answer, refused, gives}
 use Rattle.semantics.specs.Text.{comma}
 use Rattle.semantics.specs.Run.{beginning, planOf}
 use Rattle.semantics.specs.Verdict.{Verdict, unsolvable, notRobust, robust, Failing, conflictPicks}

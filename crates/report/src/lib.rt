@@ -4,7 +4,7 @@ ghost use mathlib.Core.List.{[], _∷_, _++_};
 ghost use Prim.Native.Nat.{_+_, _≤_, _<_};
 ghost use lib.ListN.{length, getD, take};
 ghost use lib.Seq.{slice};
-ghost use Rattle.semantics.specs.Run.{Fault, beginning};
+ghost use Rattle.semantics.specs.Run.{Fault};
 ghost use Rattle.text.specs.Written.{digits};
 ghost use Rattle.verdict.specs.Value.{failing, answerOf};
 ghost use Rattle.report.specs.File.{word, header, line, lines, planLines, plansLines, conflictLines, body, file};
@@ -105,17 +105,6 @@ fn put_part(out: &mut [u8], at: usize, plans: &[u16], from: usize, to: usize) ->
     put_actions(out, at, b"action", &plans[from..to])
 }
 
-// Where member i's plan begins.
-fn beginning(ends: &[u64], i: usize) -> usize
-    requires { ⌜ i < length (now ends) ⌝ }
-    ensures { λ r. ⌜ r ≡ beginning (now (ends .entry)) i ⌝ }
-{
-    if i == 0 {
-        return 0;
-    }
-    ends[i - 1] as usize
-}
-
 // Where member i's plan ends.
 fn end(ends: &[u64], i: usize) -> usize
     requires { ⌜ i < length (now ends) ⌝ }
@@ -131,7 +120,8 @@ fn put_plan(out: &mut [u8], at: usize, n: usize, plans: &[u16], ends: &[u64], i:
     ensures { λ r. ⌜ Put (now (out .entry)) at (planLines (now (plans .entry)) (now (ends .entry)) i) (now (out .exit)) r ⌝ }
 {
     let next = put_line(out, at, b"plan", i as u64);
-    put_part(out, next, plans, beginning(ends, i), end(ends, i))
+    let from = plans::beginning(ends, i) as usize;
+    put_part(out, next, plans, from, end(ends, i))
 }
 
 fn put_plans(out: &mut [u8], at: usize, n: usize, plans: &[u16], ends: &[u64]) -> usize

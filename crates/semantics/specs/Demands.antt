@@ -11,13 +11,13 @@ use lib.ListN.{length, getD, take, drop}
 use Rattle.semantics.specs.Base.{Answer, refused, gives}
 use Rattle.semantics.specs.Mask.{has}
 use Rattle.semantics.specs.Task as Task
-use Rattle.semantics.specs.Task.{members, actions, owner, check}
+use Rattle.semantics.specs.Task.{members, actions, owner}
 use Rattle.semantics.specs.System.{System, Waits, system, waits, Choice}
 use Rattle.semantics.specs.Step.{Decision, stepRefusal, step}
 use Rattle.semantics.specs.Solo.{Solo, soloRefusal, soloReplay, searchRefusal, soloSearch}
-use Rattle.semantics.specs.Run.{Fault, Outcome, success, failure, still-open, isSuccess, isOpen, start, outcome, play, Replay, planOf, plansOf, plansRefusal, jointReplay}
+use Rattle.semantics.specs.Run.{Fault, Outcome, success, failure, still-open, isSuccess, isOpen, start, outcome, play, planOf, plansOf, plansRefusal, jointReplay}
 use Rattle.semantics.specs.Verdict.{Room, Verdict, notRobust, robust, Finding, Failing, verdict, Lent, Conflict, listedFor}
-use Rattle.semantics.specs.Model.{FactSet, _⊆_, Setting, apply, Executes, Solution, World, Acts, Collides, Execution, Deadlock, Success, Missed, GoesOn}
+use Rattle.semantics.specs.Model.{FactSet, _⊆_, Setting, apply, Executes, Solution, World, Collides, Execution, Deadlock, Success, Missed, GoesOn}
 
 -- ---- demand 2: the operations agree with the execution model of social laws in MA-STRIPS
 

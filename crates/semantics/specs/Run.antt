@@ -1,7 +1,7 @@
 -- Document 01, "Runs": the plans' check, picks, outcomes, joint replay, and a pick on a run.
-use mathlib.Core.Bool.{Bool, true, false, cond, not, _&&_, _||_}
+use mathlib.Core.Bool.{Bool, true, false, cond, not, _&&_}
 use mathlib.Core.List.{List, [], _∷_, map}
-use Prim.Native.Nat.{ℕ, zero, suc, _+_}
+use Prim.Native.Nat.{ℕ, _+_}
 use lib.ListN.{length, getD, drop, set, replicate}
 use lib.Seq.{slice}
 use lib.Dec.{eqb, ltb, leb}

@@ -63,24 +63,6 @@ pub fn start(t: &[u64]) -> Local
     Local(task::initial(t))
 }
 
-// All preconditions of action a hold in s.
-pub fn able(t: &[u64], a: usize, s: Local) -> bool
-    requires { ⌜ check (now t) ≡ 0 ⌝ }
-    requires { ⌜ a < actions (now t) ⌝ }
-    ensures { λ r. ⌜ r ≡ system (now (t .entry)) .able a (localNumber s) ⌝ }
-{
-    step::local_able(t, a, s)
-}
-
-// The local copy after action a.
-pub fn result(t: &[u64], a: usize, s: Local) -> Local
-    requires { ⌜ check (now t) ≡ 0 ⌝ }
-    requires { ⌜ a < actions (now t) ⌝ }
-    ensures { λ r. ⌜ localNumber r ≡ system (now (t .entry)) .result a (localNumber s) ⌝ }
-{
-    step::local_result(t, a, s)
-}
-
 // Member i's goal holds in s.
 pub fn done(t: &[u64], i: usize, s: Local) -> bool
     requires { ⌜ check (now t) ≡ 0 ⌝ }

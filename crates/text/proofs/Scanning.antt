@@ -1,13 +1,13 @@
 -- The scan's invariant, and the lent slice. Assumes nothing.
 use mathlib.Core.Path.{_≡_, refl, sym, ap, ap₂, subst, _∙_}
-use mathlib.Core.List.{List, [], _∷_, _++_, append-assoc, append-nil}
+use mathlib.Core.List.{List, [], _∷_, _++_}
 use mathlib.Core.Bool.{true, false}
 use Prim.Native.Nat.{ℕ, zero, suc, _+_, _-_, _*_, _≤_, _<_}
-use native.Mathlib.Nat.{sub-self, sub-zero}
+use native.Mathlib.Nat.{sub-zero}
 use native.Mathlib.Numerals.{add-one}
 use native.Mathlib.Omega.{arith}
-use lib.ListN.{length, getD, take, drop, set, replicate, length-set, drop-of-length-le, replicate-append-replicate}
-use lib.Seq.{drop-cons, take-suc-set, take-all, length-take-le}
+use lib.ListN.{length, getD, take, drop, set, replicate, length-set, drop-of-length-le}
+use lib.Seq.{drop-cons, take-suc-set, length-take-le}
 use borrow.Author.Tests.{lt-ltb, le-ltb}
 use Rattle.semantics.specs.Base.{padded, zeroed}
 use Rattle.semantics.specs.Task.{rowWidth, check}
@@ -123,23 +123,6 @@ module _ {text words₀ words : List ℕ} {place : Place} {count i : ℕ} (s : S
 
   pub no-end : (r : Last) → AtEnd text (take count words) r → r ≡ BadEnd → isText text ≡ false
   no-end r h e = subst (AtEnd text (take count words)) e h
-
--- ---- a fill
-
-pub clear-more : (t₀ t : List ℕ) (from i : ℕ) → from ≤ i → i < length t → take i t ≡ take from t₀ ++ replicate (i - from) 0
-    → take (i + 1) (set t i 0) ≡ take from t₀ ++ replicate (i + 1 - from) 0
-clear-more t₀ t from i f l h =
-    rw (add-one, take-suc-set t i 0 l, h, append-assoc, replicate-append-replicate {A = ℕ} (i - from) 1 0)
-    (let e : i - from + 1 ≡ suc i - from = omega arith in ap (λ (n : ℕ). take from t₀ ++ replicate n 0) e)
-
-pub clear-none : (t : List ℕ) (from : ℕ) → take from t ≡ take from t ++ replicate (from - from) 0
-clear-none t from = rw (sub-self from, append-nil)
-
-pub clear-all : (t₀ t : List ℕ) (from i : ℕ) → i ≤ length t → length t ≤ i → length t ≡ length t₀ → take i t ≡ take from t₀ ++ replicate (i - from) 0
-    → t ≡ take from t₀ ++ replicate (length t₀ - from) 0
-clear-all t₀ t from i a b e h =
-    let q : i ≡ length t₀ = omega arith in
-    sym (take-all i t b) ∙ h ∙ ap (λ (n : ℕ). take from t₀ ++ replicate (n - from) 0) q
 
 -- ---- the text reader's meaning, case by case
 

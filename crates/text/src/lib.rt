@@ -1,8 +1,7 @@
 // The text reader: bytes in, the words of a task out.
 ghost use mathlib.Core.Path.{_≡_};
-ghost use mathlib.Core.List.{_++_};
-ghost use Prim.Native.Nat.{_-_, _≤_};
-ghost use lib.ListN.{length, take, replicate};
+ghost use Prim.Native.Nat.{_≤_};
+ghost use lib.ListN.{length};
 ghost use Rattle.text.specs.Byte.{byteMeans};
 ghost use Rattle.text.specs.Place.{at, InReach, stepOf, lastOf};
 ghost use Rattle.text.specs.Post.{mostWords, scanMeans, reading};
@@ -243,23 +242,11 @@ fn scan_text(text: &[u8], words: &mut [u64]) -> Scan
     }
 }
 
-// Each entry from `from` on is 0.
-fn clear(words: &mut [u64], from: usize)
-    requires { ⌜ from ≤ length (now words) ⌝ }
-    ensures { λ _. ⌜ now (words .exit) ≡ take from (now (words .entry)) ++ replicate (length (now (words .entry)) - from) 0 ⌝ }
-{
-    let mut i = from;
-    while i < words.len() {
-        words[i] = 0;
-        i += 1;
-    }
-}
-
 // A refusal after which the slice is all zeros.
 fn refuse(words: &mut [u64], refusal: u64) -> TextRead
     ensures { λ r. ⌜ (r ≡ TextRead.Refused refusal) × (now (words .exit) ≡ zeroed (now (words .entry))) ⌝ }
 {
-    clear(words, 0);
+    table::clear(words, 0);
     TextRead::Refused(refusal)
 }
 
@@ -276,7 +263,7 @@ pub fn read(text: &[u8], words: &mut [u64]) -> TextRead
             let end = ROW * n;
             let refusal = task::check(&words[..end]);
             if refusal == 0 {
-                clear(words, end);
+                table::clear(words, end);
                 TextRead::Records(n)
             } else {
                 refuse(words, refusal)

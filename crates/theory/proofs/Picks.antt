@@ -1,18 +1,16 @@
 -- What the routine and a pick answer, case by case, and what a pick makes of the run. Assumes nothing.
-use mathlib.Core.Path.{_≡_, refl, sym, ap, subst, _∙_}
+use mathlib.Core.Path.{_≡_, refl, sym, ap, _∙_}
 use mathlib.Core.Bool.{Bool, true, false, cond, not}
 use mathlib.Core.List.{List, [], _∷_}
-use Prim.Native.Nat.{ℕ, zero, suc, _+_, _≤_, _<_}
-use native.Mathlib.Omega.{arith}
-use native.Mathlib.Numerals.{add-one}
-use lib.ListN.{length, getD, drop, set, length-set}
+use Prim.Native.Nat.{ℕ, _+_, _≤_, _<_}
+use lib.ListN.{length, getD, drop, set}
 use lib.Seq.{getD-set-same, getD-set-other, drop-drop}
-use lib.Dec.{ltb, eqb}
-use borrow.Author.Tests.{ltb-true, ltb-false, lt-ltb, le-ltb}
-use Rattle.semantics.specs.Base.{_if_, _else_, Answer, refused, gives, unless}
+use lib.Dec.{ltb}
+use borrow.Author.Tests.{ltb-true, ltb-false}
+use Rattle.semantics.specs.Base.{_if_, _else_, Answer, refused, unless}
 use Rattle.semantics.specs.System.{System, Waits}
 use Rattle.semantics.specs.Step.{Decision, decide}
-use Rattle.semantics.specs.Run.{Run, rest, advance, pickStep, pick, given}
+use Rattle.semantics.specs.Run.{Run, rest, advance, pickStep, pick}
 
 -- the routine's answers
 pub data Decided (S : System) (W : Waits S) (a : ℕ) (g : S .State) : Decision (S .State) → Type 0 where

@@ -1,20 +1,20 @@
 -- Plans in one slice: a list of plans, laid end to end, with their ends. Joint replay reads back the list, and does not refuse plans that
 -- solve. Assumes nothing.
 use mathlib.Core.Path.{_≡_, refl, sym, ap, subst, _∙_}
-use mathlib.Core.Bool.{Bool, true, false, cond, _&&_, not}
-use mathlib.Core.List.{List, [], _∷_, _++_, map, flatten, append-assoc, List·Memᴰ, List·Memᴰ·head, List·Memᴰ·tail}
+use mathlib.Core.Bool.{true}
+use mathlib.Core.List.{List, [], _∷_, _++_, flatten, append-assoc}
 use Prim.Native.Nat.{ℕ, zero, suc, _+_, _≤_, _<_}
 use native.Mathlib.Nat.{zero-add}
 use native.Mathlib.Omega.{arith}
 use lib.ListN.{length, getD, take, drop, length-append, length-map}
 use lib.Seq.{slice, take-at, drop-at, ext-getD}
-use lib.Dec.{eqb, ltb, leb}
+use lib.Dec.{leb}
 use borrow.Author.Tests.{lt-ltb, eq-eqb, le-leb}
-use Rattle.semantics.specs.Base.{range, upTo, all, firstRefusal, _if_, _else_, Answer, gives, unless}
+use Rattle.semantics.specs.Base.{upTo, firstRefusal}
 use Rattle.semantics.specs.Task.{check, members, actions, owner}
-use Rattle.semantics.specs.System.{System, system, waits, Own, Leads, done, next, Solves}
-use Rattle.semantics.specs.Solo.{Solo, solves, soloFrom, entry}
-use Rattle.semantics.specs.Run.{beginning, planOf, plansOf, endsFit, isSolves, planRefusal, plansRefusal, Replay, replay, jointReplay}
+use Rattle.semantics.specs.System.{System, system, waits, Leads, done, next, Solves}
+use Rattle.semantics.specs.Solo.{solves, soloFrom, entry}
+use Rattle.semantics.specs.Run.{beginning, planOf, plansOf, endsFit, planRefusal, plansRefusal, replay, jointReplay}
 use Rattle.theory.proofs.Lists.{and-intro, true-all, upTo-mem, getD-upTo, upTo-length}
 use Rattle.theory.proofs.Refusals.{no-refusal}
 

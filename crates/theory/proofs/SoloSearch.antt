@@ -12,7 +12,7 @@ use lib.ListN.{length, getD, take, replicate, length-map, List·getD-append}
 use lib.Seq.{take-append-seam}
 use lib.Dec.{eqb}
 use borrow.Author.Tests.{lt-ltb, le-ltb}
-use Rattle.semantics.specs.Base.{_if_, Answer, refused, gives, padded}
+use Rattle.semantics.specs.Base.{_if_, refused, gives, padded}
 use Rattle.semantics.specs.Task as Task
 use Rattle.semantics.specs.Task.{check}
 use Rattle.semantics.specs.System.{Lawful, system, waits, Live}

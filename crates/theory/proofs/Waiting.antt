@@ -1,12 +1,12 @@
 -- Source document 004: to mark more preconditions as waited for never makes a robust law not robust; the verdict stays robust, with the
 -- same number of configurations. Assumes nothing.
-use mathlib.Core.Path.{_≡_, refl, sym, ap, subst, _∙_}
-use mathlib.Core.Bool.{true, false}
-use mathlib.Core.List.{List, [], List·Memᴰ, List·Memᴰ·not-nil}
-use Prim.Native.Nat.{ℕ, _≤_, _<_}
+use mathlib.Core.Path.{_≡_, ap, subst}
+use mathlib.Core.Bool.{true}
+use mathlib.Core.List.{[], List·Memᴰ, List·Memᴰ·not-nil}
+use Prim.Native.Nat.{ℕ}
 use native.Mathlib.Omega.{arith}
 use lib.ListN.{length}
-use Rattle.semantics.specs.Base.{Answer, refused, gives}
+use Rattle.semantics.specs.Base.{Answer, gives}
 use Rattle.semantics.specs.System.{System, Waits, Lawful}
 use Rattle.semantics.specs.Verdict.{Row, configurations, faults, Finding, robust, verdictIn}
 use Rattle.theory.proofs.Lists.{true-not-false, apart}

@@ -1,6 +1,5 @@
 -- `capi::put` meets its contract. Assumes nothing.
 use Prim.Native.Nat.{_-_}
-use native.Mathlib.Omega.{arith}
 use lib.ListN.{length}
 use borrow.Author.Needs.{needs}
 use Rattle.capi.proofs.Putting.{Putting, put-begin, put-length, put-room, put-onward, put-end}

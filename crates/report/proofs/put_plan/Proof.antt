@@ -32,7 +32,7 @@ put-part-requires : tie.Need-put-part-requires
 unfolding word range
 put-part-requires c κs =
     let e = c .end in
-    let d = c .before .beginning in
+    let d = c .before .before .beginning in
     let f = c .before .before .before .before .before in
     let s = f .before .before .before .before .before .before in
     let a = s .args in (
@@ -53,7 +53,7 @@ unfolding word range
 returns c =
     let g = c .before .before in
     let e = g .before .end in
-    let d = g .before .before .beginning in
+    let d = g .before .before .before .beginning in
     let f = g .before .before .before .before .before .before in
     let a = f .before .before .before .before .before .before .args in
     subst (λ (l : List ℕ). Put (a .out .now) (a .at) (line (word "plan") (a .i) ++ lines (word "action") l) (g .put-part .last .0) (g .put-part .result))

@@ -3,10 +3,6 @@ use lib.ListN.{length}
 use borrow.Author.Needs.{needs}
 use Rattle.worked.proofs.bytes.Statement.{statement}
 use Rattle.worked.proofs.bytes.Tie as tie
-use Rattle.worked.proofs.bytes.Reads as reads
-use Rattle.worked.proofs.bytes.Lts as lts
-use Rattle.worked.proofs.number.Reads as number-reads
-use Rattle.worked.proofs.wide.Reads as wide-reads
 
 abbrev Inv-loop : tie.InvT-loop
 Inv-loop xs i₀ i = i ≤ length xs

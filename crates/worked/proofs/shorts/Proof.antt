@@ -3,10 +3,6 @@ use lib.ListN.{length}
 use borrow.Author.Needs.{needs}
 use Rattle.worked.proofs.shorts.Statement.{statement}
 use Rattle.worked.proofs.shorts.Tie as tie
-use Rattle.worked.proofs.shorts.Reads as reads
-use Rattle.worked.proofs.shorts.Lts as lts
-use Rattle.worked.proofs.narrow.Reads as narrow-reads
-use Rattle.worked.proofs.number.Reads as number-reads
 
 abbrev Inv-loop : tie.InvT-loop
 Inv-loop xs i₀ i = i ≤ length xs

@@ -3,9 +3,6 @@ use lib.ListN.{length}
 use borrow.Author.Needs.{needs}
 use Rattle.worked.proofs.words.Statement.{statement}
 use Rattle.worked.proofs.words.Tie as tie
-use Rattle.worked.proofs.words.Reads as reads
-use Rattle.worked.proofs.words.Lts as lts
-use Rattle.worked.proofs.number.Reads as number-reads
 
 abbrev Inv-loop : tie.InvT-loop
 Inv-loop xs i₀ i = i ≤ length xs
