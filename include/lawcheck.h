@@ -3,9 +3,9 @@
  * Every function is total: it takes any input and gives either an answer or the refusal that stands first
  * in the order written below it. It returns 0 for an answer and the refusal's number otherwise.
  *
- * A slice passes as a pointer and a length, counted in elements. Each pointer must be valid for its length,
- * and no slice that is written may overlap another one. Nothing is kept after the return, and nothing is
- * shared between calls.
+ * A slice passes as a pointer and a length, counted in elements. Each pointer must be aligned and valid for
+ * its length, not null also where the length is 0, and no slice that is written may overlap another one.
+ * Nothing is kept after the return, and nothing is shared between calls.
  *
  * An answer's numbers are written, in the order stated, to the front of `out`; a number that an answer does
  * not have is written as 0, and the rest of `out` stays as it was. After a refusal all of `out` stays as it
