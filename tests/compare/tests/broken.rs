@@ -1,46 +1,51 @@
 //! The comparison finds broken implementations: the fast twin with one thing wrong in each.
 
+#[macro_use]
+mod listed;
+
 use compare::driver::{run, Options};
 use reference::fast::Fast;
 use reference::interface::{out_length, Interface};
 
-/// What is wrong.
-#[derive(Clone, Copy, Debug, PartialEq)]
-enum Broken {
-    TaskRefusesAll,
-    TaskRangeBeforeLength,
-    TaskWaitUnchecked,
-    StepDeletesAfterAdding,
-    StepCollidesWhereItWaits,
-    StepLongCopyTaken,
-    OutAfterRefusal,
-    OutBeyondTheAnswer,
-    SoloIndexFromOne,
-    SoloBreakBeforeBadEntry,
-    SearchMarksUncleared,
-    SearchNineUncleared,
-    SearchFullTableRefused,
-    SearchAllLive,
-    JointCountsTheCollision,
-    JointAlwaysOpen,
-    JointPicksAfterTheEndTaken,
-    JointMissedHighest,
-    PickMovesNothing,
-    PickCollidedNotNoted,
-    PickCollidedTakenAsOne,
-    PickAbsentPlacesCleared,
-    VerdictRobust,
-    VerdictCountOff,
-    VerdictNineFirst,
-    VerdictNineTrailLeft,
-    VerdictUnsolvableHighest,
-    VerdictConflictDirty,
-    VerdictConflictNumberOff,
-    VerdictTablesOfUnsolvableEmpty,
-    ReadWordsLeft,
-    ReadLeadingZero,
-    ReadLongWordsUncleared,
-    ReadLineFeedAlone,
+listed! {
+    /// What is wrong.
+    #[derive(Clone, Copy, Debug, PartialEq)]
+    enum Broken {
+        TaskRefusesAll,
+        TaskRangeBeforeLength,
+        TaskWaitUnchecked,
+        StepDeletesAfterAdding,
+        StepCollidesWhereItWaits,
+        StepLongCopyTaken,
+        OutAfterRefusal,
+        OutBeyondTheAnswer,
+        SoloIndexFromOne,
+        SoloBreakBeforeBadEntry,
+        SearchMarksUncleared,
+        SearchNineUncleared,
+        SearchFullTableRefused,
+        SearchAllLive,
+        JointCountsTheCollision,
+        JointAlwaysOpen,
+        JointPicksAfterTheEndTaken,
+        JointMissedHighest,
+        PickMovesNothing,
+        PickCollidedNotNoted,
+        PickCollidedTakenAsOne,
+        PickAbsentPlacesCleared,
+        VerdictRobust,
+        VerdictCountOff,
+        VerdictNineFirst,
+        VerdictNineTrailLeft,
+        VerdictUnsolvableHighest,
+        VerdictConflictDirty,
+        VerdictConflictNumberOff,
+        VerdictTablesOfUnsolvableEmpty,
+        ReadWordsLeft,
+        ReadLeadingZero,
+        ReadLongWordsUncleared,
+        ReadLineFeedAlone,
+    }
 }
 use Broken::*;
 
@@ -232,43 +237,8 @@ impl Interface for Broken {
 
 #[test]
 fn every_broken_implementation_is_found() {
-    let all = [
-        TaskRefusesAll,
-        TaskRangeBeforeLength,
-        TaskWaitUnchecked,
-        StepDeletesAfterAdding,
-        StepCollidesWhereItWaits,
-        StepLongCopyTaken,
-        OutAfterRefusal,
-        OutBeyondTheAnswer,
-        SoloIndexFromOne,
-        SoloBreakBeforeBadEntry,
-        SearchMarksUncleared,
-        SearchNineUncleared,
-        SearchFullTableRefused,
-        SearchAllLive,
-        JointCountsTheCollision,
-        JointAlwaysOpen,
-        JointPicksAfterTheEndTaken,
-        JointMissedHighest,
-        PickMovesNothing,
-        PickCollidedNotNoted,
-        PickCollidedTakenAsOne,
-        PickAbsentPlacesCleared,
-        VerdictRobust,
-        VerdictCountOff,
-        VerdictNineFirst,
-        VerdictNineTrailLeft,
-        VerdictUnsolvableHighest,
-        VerdictConflictDirty,
-        VerdictConflictNumberOff,
-        VerdictTablesOfUnsolvableEmpty,
-        ReadWordsLeft,
-        ReadLeadingZero,
-        ReadLongWordsUncleared,
-        ReadLineFeedAlone,
-    ];
     let options = Options { seed: 11, cases: 100_000, threads: 2, stop: true };
-    let unnoticed: Vec<Broken> = all.into_iter().filter(|broken| run(broken, options).failed == 0).collect();
+    let unnoticed: Vec<Broken> =
+        Broken::ALL.iter().copied().filter(|broken| run(broken, options).failed == 0).collect();
     assert_eq!(unnoticed, []);
 }

@@ -1,68 +1,45 @@
 //! The comparison finds implementations that look for refusals in another order than the written one: the fast
 //! twin with one pair exchanged in each.
 
+#[macro_use]
+mod listed;
+
 use compare::driver::{run, Options};
 use reference::fast::Fast;
 use reference::interface::Interface;
 
-/// The pair that is exchanged: the second stands before the first in the paper.
-#[derive(Clone, Copy, Debug, PartialEq)]
-enum Exchanged {
-    LengthThenRange,
-    InitialThenLength,
-    GoalThenInitial,
-    GoalBitThenGoalRow,
-    ActionBitThenOwner,
-    WaitThenActionBit,
-    ActionThenTask,
-    FactThenAction,
-    EntryThenMember,
-    OthersThenAction,
-    MarksThenMember,
-    FullThenMarks,
-    EntryThenEnds,
-    EntryThenEarlierUnsolved,
-    PickThenPlans,
-    ImpossibleThenPickedMember,
-    PlaceThenShared,
-    SharedThenPlans,
-    MemberThenPlace,
-    ImpossibleThenMember,
-    ImpossibleThenPlace,
-    FullThenSlices,
-    UnsolvableThenFull,
-    TextThenWords,
-    TaskThenWords,
+listed! {
+    /// The pair that is exchanged: the second stands before the first in the paper.
+    #[derive(Clone, Copy, Debug, PartialEq)]
+    enum Exchanged {
+        LengthThenRange,
+        InitialThenLength,
+        GoalThenInitial,
+        GoalBitThenGoalRow,
+        ActionBitThenOwner,
+        WaitThenActionBit,
+        ActionThenTask,
+        FactThenAction,
+        EntryThenMember,
+        OthersThenAction,
+        MarksThenMember,
+        FullThenMarks,
+        EntryThenEnds,
+        EntryThenEarlierUnsolved,
+        PickThenPlans,
+        ImpossibleThenPickedMember,
+        PlaceThenShared,
+        SharedThenPlans,
+        MemberThenPlace,
+        ImpossibleThenMember,
+        ImpossibleThenPlace,
+        FullThenSlices,
+        UnsolvableThenFull,
+        TextThenWords,
+        TaskThenWords,
+    }
 }
 use Exchanged::*;
-
-const ALL: [Exchanged; 25] = [
-    LengthThenRange,
-    InitialThenLength,
-    GoalThenInitial,
-    GoalBitThenGoalRow,
-    ActionBitThenOwner,
-    WaitThenActionBit,
-    ActionThenTask,
-    FactThenAction,
-    EntryThenMember,
-    OthersThenAction,
-    MarksThenMember,
-    FullThenMarks,
-    EntryThenEnds,
-    EntryThenEarlierUnsolved,
-    PickThenPlans,
-    ImpossibleThenPickedMember,
-    PlaceThenShared,
-    SharedThenPlans,
-    MemberThenPlace,
-    ImpossibleThenMember,
-    ImpossibleThenPlace,
-    FullThenSlices,
-    UnsolvableThenFull,
-    TextThenWords,
-    TaskThenWords,
-];
 
 /// The first row that the task check refuses.
 fn refused_row(task: &[u64]) -> Option<&[u64]> {
@@ -252,6 +229,6 @@ impl Interface for Exchanged {
 fn every_exchanged_pair_is_found() {
     let options = Options { seed: 13, cases: 100_000, threads: 2, stop: true };
     let unnoticed: Vec<Exchanged> =
-        ALL.into_iter().filter(|exchanged| run(exchanged, options).failed == 0).collect();
+        Exchanged::ALL.iter().copied().filter(|exchanged| run(exchanged, options).failed == 0).collect();
     assert_eq!(unnoticed, []);
 }
