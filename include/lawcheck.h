@@ -159,6 +159,11 @@ uint64_t lawcheck_joint_replay(const uint64_t *task, size_t task_len,
  * that the task does not have are not looked at), the shared copy. A run starts with 0, places 0 and I. After
  * go the member's place and the shared copy are moved on; after a collision the first word is 1; nothing else
  * of the run is written.
+ *
+ * Each pick looks at the task and at all plans anew, since it is handed them anew: its time grows with
+ * task_len + plans_len, and a run of as many picks as there are steps takes the square of that. Picks that are
+ * known beforehand are done by one lawcheck_joint_replay, which looks at the plans once.
+ *
  * out: 0 go, 1 collision.
  * Refuses with 14 where run_len is below 10 or out_len below 1; as lawcheck_joint_replay up to 12; 4 a bit of
  * the shared copy at or above F; 11 a place past its plan's end; 8 no such member; 13 (no step left, waiting,

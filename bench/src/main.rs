@@ -5,6 +5,10 @@
 //! about growth, each side's to its own in the first line of that operation and law.
 #![forbid(unsafe_code)]
 
+// Brings the functions that the wrapper declares.
+#[cfg(feature = "mock")]
+extern crate mock as _;
+
 mod laws;
 mod sides;
 mod timing;
@@ -32,11 +36,20 @@ fn main() {
         println!("{} |", measured.line());
     }
 
+    println!("\nOne pick beside the replay of all picks, each by the library\n");
+    println!("| steps | pick / replay |");
+    println!("|---|---|");
+    for steps in [256, 1024, 4096, 16_384] {
+        let (one, all) = (pick(steps), joint_replay(steps));
+        println!("| {} | {:.2} |", all.rows, ratio(one.library, all.library));
+    }
+
     growth("Growth with rows");
     grows((4..=12).map(|facts| solo_search("one member", laws::repeated(laws::counter(facts), 24))));
     grows((4..=12).map(|facts| verdict("one member", laws::repeated(laws::counter(facts), 24))));
     grows([4, 6, 8, 10, 12].map(|length| verdict("cube", laws::grid(&[length, length, length]))));
     grows([256, 1024, 4096, 16_384].map(joint_replay));
+    grows([256, 1024, 4096, 16_384].map(pick));
     grows([17, 33, 65, 129].map(reader));
 
     growth("Growth with actions");
@@ -120,6 +133,14 @@ fn joint_replay(steps: usize) -> Measured {
     let run = |slices: &mut Slices| slices.joint_replay(&words, &plans, &ends, &picks);
     let rows = |slices: &Slices| slices.out[2] as usize;
     measure("joint replay", "eight members in turn", law.actions.len(), run, rows)
+}
+
+/// The rows are the plans' steps, all of which a pick looks at.
+fn pick(steps: usize) -> Measured {
+    let (law, plans, ends, _) = laws::long_run(steps);
+    let words = law.words();
+    let run = |slices: &mut Slices| slices.pick(&words, &plans, &ends);
+    measure("one pick", "eight members in turn", law.actions.len(), run, |_| plans.len())
 }
 
 fn reader(records: usize) -> Measured {

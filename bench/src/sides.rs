@@ -49,7 +49,7 @@ impl Slices {
     pub fn solo_search(&mut self, task: &[u64]) {
         let (table, marks, out) = (&mut self.local, &mut self.marks, &mut self.out);
         self.returned = match self.side {
-            Side::Library => lawcheck::solo_search(task, 0, table, marks, out),
+            Side::Library => lawcheck::raw::solo_search(task, 0, table, marks, out),
             Side::Twin => Fast.solo_search(task, 0, table, marks, out),
         };
     }
@@ -58,7 +58,7 @@ impl Slices {
         let Slices { local, marks, configurations, trail, plans, ends, picks, out, .. } = self;
         self.returned = match self.side {
             Side::Library => {
-                lawcheck::verdict(task, local, marks, configurations, trail, plans, ends, picks, out)
+                lawcheck::raw::verdict(task, local, marks, configurations, trail, plans, ends, picks, out)
             }
             Side::Twin => Fast.verdict(task, local, marks, configurations, trail, plans, ends, picks, out),
         };
@@ -66,14 +66,24 @@ impl Slices {
 
     pub fn joint_replay(&mut self, task: &[u64], plans: &[u16], ends: &[u64], picks: &[u8]) {
         self.returned = match self.side {
-            Side::Library => lawcheck::joint_replay(task, plans, ends, picks, &mut self.out),
+            Side::Library => lawcheck::raw::joint_replay(task, plans, ends, picks, &mut self.out),
             Side::Twin => Fast.joint_replay(task, plans, ends, picks, &mut self.out),
+        };
+    }
+
+    /// One pick of member 0 on a run at its start.
+    pub fn pick(&mut self, task: &[u64], plans: &[u16], ends: &[u64]) {
+        let mut run = [0; lawcheck::raw::RUN_WORDS];
+        run[lawcheck::raw::RUN_SHARED] = task[3];
+        self.returned = match self.side {
+            Side::Library => lawcheck::raw::pick(task, plans, ends, &mut run, 0, &mut self.out),
+            Side::Twin => Fast.pick(task, plans, ends, &mut run, 0, &mut self.out),
         };
     }
 
     pub fn read(&mut self, text: &[u8]) {
         self.returned = match self.side {
-            Side::Library => lawcheck::read(text, &mut self.words, &mut self.out),
+            Side::Library => lawcheck::raw::read(text, &mut self.words, &mut self.out),
             Side::Twin => Fast.read(text, &mut self.words, &mut self.out),
         };
     }

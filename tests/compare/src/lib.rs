@@ -3,6 +3,10 @@
 //! refusal; a conflict is free and is replayed in both implementations.
 #![forbid(unsafe_code)]
 
+// Brings the functions that the wrapper declares.
+#[cfg(feature = "mock")]
+extern crate mock as _;
+
 pub mod case;
 pub mod coverage;
 pub mod driver;

@@ -7,15 +7,15 @@ pub struct Proved;
 
 impl Interface for Proved {
     fn task(&self, task: &[u64]) -> u64 {
-        lawcheck::task(task)
+        lawcheck::raw::task(task)
     }
 
     fn step(&self, task: &[u64], action: u16, shared: &[u64], out: &mut [u64]) -> u64 {
-        lawcheck::step(task, action, shared, out)
+        lawcheck::raw::step(task, action, shared, out)
     }
 
     fn solo_replay(&self, task: &[u64], member: u8, plan: &[u16], out: &mut [u64]) -> u64 {
-        lawcheck::solo_replay(task, member, plan, out)
+        lawcheck::raw::solo_replay(task, member, plan, out)
     }
 
     fn solo_search(
@@ -26,11 +26,11 @@ impl Interface for Proved {
         marks: &mut [u8],
         out: &mut [u64],
     ) -> u64 {
-        lawcheck::solo_search(task, member, table, marks, out)
+        lawcheck::raw::solo_search(task, member, table, marks, out)
     }
 
     fn joint_replay(&self, task: &[u64], plans: &[u16], ends: &[u64], picks: &[u8], out: &mut [u64]) -> u64 {
-        lawcheck::joint_replay(task, plans, ends, picks, out)
+        lawcheck::raw::joint_replay(task, plans, ends, picks, out)
     }
 
     fn pick(
@@ -42,7 +42,7 @@ impl Interface for Proved {
         member: u8,
         out: &mut [u64],
     ) -> u64 {
-        lawcheck::pick(task, plans, ends, run, member, out)
+        lawcheck::raw::pick(task, plans, ends, run, member, out)
     }
 
     fn verdict(
@@ -57,10 +57,10 @@ impl Interface for Proved {
         picks: &mut [u8],
         out: &mut [u64],
     ) -> u64 {
-        lawcheck::verdict(task, local, marks, configurations, trail, plans, ends, picks, out)
+        lawcheck::raw::verdict(task, local, marks, configurations, trail, plans, ends, picks, out)
     }
 
     fn read(&self, text: &[u8], words: &mut [u64], out: &mut [u64]) -> u64 {
-        lawcheck::read(text, words, out)
+        lawcheck::raw::read(text, words, out)
     }
 }

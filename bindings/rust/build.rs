@@ -1,5 +1,5 @@
-//! Links the static library of the C interface: `target/staticlib/libcapi.a`, or the archive that
-//! LAWCHECK_LIBRARY names. With the feature `mock` nothing is linked.
+//! Links the static library of the C interface: the archive that LAWCHECK_LIBRARY names (as an installed
+//! `liblawcheck.a`), or the repository's `target/staticlib/libcapi.a`. With the feature `unlinked` nothing.
 
 use std::env;
 use std::path::{Path, PathBuf};
@@ -7,7 +7,7 @@ use std::process::exit;
 
 fn main() {
     println!("cargo::rerun-if-env-changed=LAWCHECK_LIBRARY");
-    if env::var_os("CARGO_FEATURE_MOCK").is_some() {
+    if env::var_os("CARGO_FEATURE_UNLINKED").is_some() {
         return;
     }
     let archive = match env::var_os("LAWCHECK_LIBRARY") {
@@ -20,7 +20,7 @@ fn main() {
     println!("cargo::rerun-if-changed={}", archive.display());
     let Ok(archive) = archive.canonicalize() else {
         eprintln!("error: the static library {} is missing.", archive.display());
-        eprintln!("Build it first, name it in LAWCHECK_LIBRARY, or use --features mock.");
+        eprintln!("Make it first (rt staticlib capi), or name one in LAWCHECK_LIBRARY.");
         exit(1);
     };
     let folder = archive.parent().expect("a file stands in a folder");

@@ -1,4 +1,4 @@
-//! The same functions over the fast twin. As a static library they stand in for the proved one.
+//! The functions of `include/lawcheck.h` over the fast twin: they stand in for the proved library.
 #![allow(clippy::missing_safety_doc, clippy::too_many_arguments)]
 
 use reference::fast::Fast;

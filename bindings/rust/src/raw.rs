@@ -1,12 +1,30 @@
-//! The foreign declarations, and one safe function over each. A slice passes as pointer and length.
+//! The header's functions and constants as they are. A slice passes as pointer and length; each function gives
+//! a refusal's number, or 0 for an answer, whose numbers stand at the front of `out`.
 
-#[cfg(not(feature = "mock"))]
-mod foreign;
-#[cfg(feature = "mock")]
-#[path = "mock.rs"]
-mod foreign;
+use crate::foreign::*;
 
-use foreign::*;
+/// Defines the header's constants, and the list of them.
+macro_rules! constants {
+    ($($kind:ident: $($name:ident = $number:literal),*;)*) => {
+        $($(pub const $name: $kind = $number;)*)*
+
+        /// Each name, without LAWCHECK_, and its number.
+        pub const CONSTANTS: &[(&str, u64)] = &[$($((stringify!($name), $number)),*),*];
+    };
+}
+
+constants! {
+    u64: LENGTH = 1, RANGE = 2, GOAL_ROW = 3, FACT = 4, OWNER = 5, WAIT = 6, ACTION = 7, MEMBER = 8, FULL = 9,
+        OTHERS = 10, ENDS = 11, NO_SOLUTION = 12, PICK = 13, SHORT = 14, TEXT = 15;
+    usize: STEP_OUT = 2, SOLO_REPLAY_OUT = 2, SOLO_SEARCH_OUT = 2, JOINT_REPLAY_OUT = 4, PICK_OUT = 1,
+        VERDICT_OUT = 3, READ_OUT = 1, RUN_WORDS = 10, TEXT_WORDS = 1325;
+    u64: STEP_GO = 0, STEP_WAIT = 1, STEP_COLLISION = 2;
+    u64: SOLVES = 0, BREAKS = 1, GOAL_SHORT = 2;
+    u64: RUN_SUCCESS = 0, RUN_COLLISION = 1, RUN_DEADLOCK = 2, RUN_MISSED = 3, RUN_OPEN = 4;
+    u64: PICK_GO = 0, PICK_COLLISION = 1;
+    u64: ROBUST = 0, UNSOLVABLE = 1, COLLISION = 2, DEADLOCK = 3, MISSED = 4;
+    usize: RUN_COLLIDED = 0, RUN_PLACES = 1, RUN_SHARED = 9;
+}
 
 /// The task check.
 pub fn task(task: &[u64]) -> u64 {

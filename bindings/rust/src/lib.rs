@@ -1,0 +1,339 @@
+//! A safe wrapper of the law checker's C interface, which `include/lawcheck.h` documents.
+//!
+//! Each function here has one of the header's functions under it: an answer is an enum or a struct, a refusal
+//! is a [`Refusal`]. [`raw`] has the same functions with the header's numbers and slices, and its constants.
+#![deny(unsafe_code)]
+
+#[allow(unsafe_code)]
+mod foreign;
+#[allow(unsafe_code)]
+pub mod raw;
+
+use std::error::Error;
+use std::fmt;
+
+/// Defines the refusals: the header's number and what it means, said once.
+macro_rules! refusals {
+    ($($case:ident = $number:ident: $meaning:literal,)*) => {
+        /// Why an input was turned back, with the header's number.
+        #[derive(Clone, Copy, Debug, PartialEq, Eq, Hash)]
+        #[repr(u64)]
+        pub enum Refusal {
+            $(#[doc = $meaning] $case = raw::$number,)*
+        }
+
+        impl Refusal {
+            /// All of them, in the order of their numbers.
+            pub const ALL: &'static [Refusal] = &[$(Refusal::$case),*];
+
+            /// What it means.
+            pub fn meaning(self) -> &'static str {
+                match self {
+                    $(Refusal::$case => $meaning,)*
+                }
+            }
+        }
+    };
+}
+
+refusals! {
+    Length = LENGTH: "the task's length",
+    Range = RANGE: "F, n, m or the last word of row 0",
+    GoalRow = GOAL_ROW: "a goal row's member or its last three words",
+    Fact = FACT: "a bit at or above F",
+    Owner = OWNER: "an action's member",
+    Wait = WAIT: "wait is not within pre",
+    Action = ACTION: "no such action",
+    Member = MEMBER: "no such member",
+    Full = FULL: "more rows than the table takes",
+    Others = OTHERS: "another member's action",
+    Ends = ENDS: "the ends, or a place past its plan's end",
+    NoSolution = NO_SOLUTION: "a plan does not solve",
+    Pick = PICK: "no step left, waiting, or already collided",
+    Short = SHORT: "a lent slice is too short",
+    Text = TEXT: "the text's form",
+}
+
+impl Refusal {
+    /// The header's number.
+    pub fn number(self) -> u64 {
+        self as u64
+    }
+
+    /// The refusal with this number.
+    pub fn of(number: u64) -> Option<Refusal> {
+        Refusal::ALL.iter().copied().find(|refusal| refusal.number() == number)
+    }
+}
+
+impl fmt::Display for Refusal {
+    fn fmt(&self, f: &mut fmt::Formatter<'_>) -> fmt::Result {
+        write!(f, "refused, {}: {}", self.number(), self.meaning())
+    }
+}
+
+impl Error for Refusal {}
+
+/// The answer for a function's return: 0, or a refusal's number.
+fn answered(returned: u64) -> Result<(), Refusal> {
+    match returned {
+        0 => Ok(()),
+        number => Err(Refusal::of(number).expect("the library gives the header's refusals")),
+    }
+}
+
+/// An answer that the header does not have.
+fn unknown(number: u64) -> ! {
+    unreachable!("the library gives the header's answers, not {number}")
+}
+
+/// The task check.
+pub fn check(task: &[u64]) -> Result<(), Refusal> {
+    answered(raw::task(task))
+}
+
+/// What an action answers at a shared copy.
+#[derive(Clone, Copy, Debug, PartialEq, Eq)]
+pub enum Step {
+    /// It goes; the new shared copy.
+    Go(u64),
+    Wait,
+    Collision,
+}
+
+/// An action at a shared copy.
+pub fn step(task: &[u64], action: u16, shared: u64) -> Result<Step, Refusal> {
+    let mut out = [0; raw::STEP_OUT];
+    answered(raw::step(task, action, &[shared], &mut out))?;
+    Ok(match out[0] {
+        raw::STEP_GO => Step::Go(out[1]),
+        raw::STEP_WAIT => Step::Wait,
+        raw::STEP_COLLISION => Step::Collision,
+        number => unknown(number),
+    })
+}
+
+/// How a member's plan ends on its local copy alone.
+#[derive(Clone, Copy, Debug, PartialEq, Eq)]
+pub enum SoloReplay {
+    Solves,
+    /// The index, from 0, of the first step that lacks a precondition.
+    Breaks(u64),
+    /// All steps are done, and the goal is missing.
+    Short,
+}
+
+/// A member's plan on its local copy alone.
+pub fn solo_replay(task: &[u64], member: u8, plan: &[u16]) -> Result<SoloReplay, Refusal> {
+    let mut out = [0; raw::SOLO_REPLAY_OUT];
+    answered(raw::solo_replay(task, member, plan, &mut out))?;
+    Ok(match out[0] {
+        raw::SOLVES => SoloReplay::Solves,
+        raw::BREAKS => SoloReplay::Breaks(out[1]),
+        raw::GOAL_SHORT => SoloReplay::Short,
+        number => unknown(number),
+    })
+}
+
+/// What solo search found.
+#[derive(Clone, Copy, Debug, PartialEq, Eq)]
+pub struct SoloSearch {
+    /// The local copies that can be reached, in the front of the table.
+    pub copies: u64,
+    /// Whether I is live: the member has a plan.
+    pub live: bool,
+}
+
+/// A member's reachable local copies, in breadth order, and a mark 1 for each live one.
+pub fn solo_search(
+    task: &[u64],
+    member: u8,
+    table: &mut [u64],
+    marks: &mut [u8],
+) -> Result<SoloSearch, Refusal> {
+    let mut out = [0; raw::SOLO_SEARCH_OUT];
+    answered(raw::solo_search(task, member, table, marks, &mut out))?;
+    Ok(SoloSearch { copies: out[0], live: out[1] == 1 })
+}
+
+/// How a run stands.
+#[derive(Clone, Copy, Debug, PartialEq, Eq)]
+pub enum Outcome {
+    Success,
+    Collision,
+    Deadlock,
+    /// The lowest member whose goal does not hold.
+    Missed(u8),
+    /// It is not finished.
+    Open,
+}
+
+/// A run after a list of picks.
+#[derive(Clone, Copy, Debug, PartialEq, Eq)]
+pub struct Replay {
+    pub outcome: Outcome,
+    /// Picks done, a colliding one not counted.
+    pub picks: u64,
+    pub shared: u64,
+}
+
+/// A list of picks from the start of a run.
+pub fn joint_replay(task: &[u64], plans: &[u16], ends: &[u64], picks: &[u8]) -> Result<Replay, Refusal> {
+    let mut out = [0; raw::JOINT_REPLAY_OUT];
+    answered(raw::joint_replay(task, plans, ends, picks, &mut out))?;
+    let outcome = match out[0] {
+        raw::RUN_SUCCESS => Outcome::Success,
+        raw::RUN_COLLISION => Outcome::Collision,
+        raw::RUN_DEADLOCK => Outcome::Deadlock,
+        raw::RUN_MISSED => Outcome::Missed(out[1] as u8),
+        raw::RUN_OPEN => Outcome::Open,
+        number => unknown(number),
+    };
+    Ok(Replay { outcome, picks: out[2], shared: out[3] })
+}
+
+/// A run that the caller holds: whether it has collided, each member's place in its plan, the shared copy.
+#[derive(Clone, Debug, PartialEq, Eq)]
+pub struct Run {
+    words: [u64; raw::RUN_WORDS],
+}
+
+impl Run {
+    /// A run at its start: the task's initial copy, all places 0.
+    pub fn start(task: &[u64]) -> Result<Run, Refusal> {
+        check(task)?;
+        let mut words = [0; raw::RUN_WORDS];
+        words[raw::RUN_SHARED] = task[3];
+        Ok(Run { words })
+    }
+
+    /// A run of these words, as the header has them. A pick refuses those that no run has.
+    pub fn of_words(words: [u64; raw::RUN_WORDS]) -> Run {
+        Run { words }
+    }
+
+    pub fn words(&self) -> &[u64; raw::RUN_WORDS] {
+        &self.words
+    }
+
+    pub fn collided(&self) -> bool {
+        self.words[raw::RUN_COLLIDED] != 0
+    }
+
+    /// Each member's place in its plan; those of members that the task does not have come last.
+    pub fn places(&self) -> &[u64] {
+        &self.words[raw::RUN_PLACES..raw::RUN_SHARED]
+    }
+
+    pub fn shared(&self) -> u64 {
+        self.words[raw::RUN_SHARED]
+    }
+
+    /// Does a member's next step. Each pick looks at all plans anew; a list of picks from the start is best
+    /// done by [`joint_replay`], which looks at them once.
+    pub fn pick(&mut self, task: &[u64], plans: &[u16], ends: &[u64], member: u8) -> Result<Picked, Refusal> {
+        let mut out = [0; raw::PICK_OUT];
+        answered(raw::pick(task, plans, ends, &mut self.words, member, &mut out))?;
+        Ok(match out[0] {
+            raw::PICK_GO => Picked::Go,
+            raw::PICK_COLLISION => Picked::Collision,
+            number => unknown(number),
+        })
+    }
+}
+
+/// What a pick answers.
+#[derive(Clone, Copy, Debug, PartialEq, Eq)]
+pub enum Picked {
+    Go,
+    Collision,
+}
+
+/// Whether a law is robust.
+#[derive(Clone, Copy, Debug, PartialEq, Eq)]
+pub enum Verdict {
+    /// The configurations that can be reached.
+    Robust {
+        configurations: u64,
+    },
+    /// The lowest member that has no plan.
+    Unsolvable {
+        member: u8,
+    },
+    /// Picks done before the fault, as below.
+    Collision {
+        picks: u64,
+    },
+    Deadlock {
+        picks: u64,
+    },
+    /// The member whose goal does not hold in the end.
+    Missed {
+        member: u8,
+        picks: u64,
+    },
+}
+
+/// The slices that the verdict is lent. After an answer they hold what the header says.
+#[derive(Clone, Debug)]
+pub struct Room {
+    pub local: Vec<u64>,
+    pub marks: Vec<u8>,
+    pub configurations: Vec<u64>,
+    pub trail: Vec<u64>,
+    pub plans: Vec<u16>,
+    pub ends: Vec<u64>,
+    pub picks: Vec<u8>,
+}
+
+impl Room {
+    /// Room for a task of so many members: so many local copies of each, and so many configurations.
+    pub fn new(members: usize, copies: usize, configurations: usize) -> Room {
+        Room {
+            local: vec![0; members * copies],
+            marks: vec![0; members * copies],
+            configurations: vec![0; (members + 1) * configurations],
+            trail: vec![0; 2 * configurations],
+            plans: vec![0; configurations + members * copies],
+            ends: vec![0; members],
+            picks: vec![0; configurations],
+        }
+    }
+
+    /// After a fault: the plans up to the last end, and the picks, a colliding one included. They are what
+    /// [`joint_replay`] is lent, with the ends.
+    pub fn conflict(&self, verdict: Verdict) -> Option<(&[u16], &[u8])> {
+        let picks = match verdict {
+            Verdict::Collision { picks } => picks + 1,
+            Verdict::Deadlock { picks } | Verdict::Missed { picks, .. } => picks,
+            Verdict::Robust { .. } | Verdict::Unsolvable { .. } => return None,
+        };
+        let plans = self.ends.last().copied().unwrap_or(0);
+        Some((&self.plans[..plans as usize], &self.picks[..picks as usize]))
+    }
+}
+
+/// Whether a law is robust: no choice of solving plans and no order of picks ends in a fault.
+pub fn verdict(task: &[u64], room: &mut Room) -> Result<Verdict, Refusal> {
+    let mut out = [0; raw::VERDICT_OUT];
+    let Room { local, marks, configurations, trail, plans, ends, picks } = room;
+    answered(raw::verdict(task, local, marks, configurations, trail, plans, ends, picks, &mut out))?;
+    let (member, number) = (out[1] as u8, out[2]);
+    Ok(match out[0] {
+        raw::ROBUST => Verdict::Robust { configurations: number },
+        raw::UNSOLVABLE => Verdict::Unsolvable { member },
+        raw::COLLISION => Verdict::Collision { picks: number },
+        raw::DEADLOCK => Verdict::Deadlock { picks: number },
+        raw::MISSED => Verdict::Missed { member, picks: number },
+        number => unknown(number),
+    })
+}
+
+/// The task that a text tells.
+pub fn read(text: &[u8]) -> Result<Vec<u64>, Refusal> {
+    let mut words = vec![0; raw::TEXT_WORDS];
+    let mut out = [0; raw::READ_OUT];
+    answered(raw::read(text, &mut words, &mut out))?;
+    words.truncate(5 * out[0] as usize);
+    Ok(words)
+}

@@ -1,0 +1,137 @@
+//! The Rust wrapper: its constants are the header's, and each answer and refusal comes out as its own case.
+
+use compare as _;
+use lawcheck::{
+    check, joint_replay, raw, read, solo_replay, solo_search, step, verdict, Outcome, Picked, Refusal, Replay, Room,
+    Run, SoloReplay, SoloSearch, Step, Verdict,
+};
+use reference::generate::text::of_words;
+use reference::laws;
+
+#[test]
+fn the_constants_are_the_headers() {
+    let header = include_str!("../../../include/lawcheck.h");
+    let mut told: Vec<(String, u64)> = header
+        .split(['{', ',', '\n'])
+        .filter_map(|part| part.trim().trim_end_matches("};").strip_prefix("LAWCHECK_")?.split_once(" = "))
+        .map(|(name, rest)| (name.to_string(), rest.split(' ').next().unwrap().parse().expect(name)))
+        .collect();
+    let mut ours: Vec<(String, u64)> = raw::CONSTANTS.iter().map(|&(name, number)| (name.to_string(), number)).collect();
+    told.sort();
+    ours.sort();
+    assert!(told.len() > 40, "the header's constants are found: {told:?}");
+    assert_eq!(told, ours);
+}
+
+#[test]
+fn a_refusal_is_its_number() {
+    for number in 1..=15 {
+        let refusal = Refusal::of(number).expect("1 to 15 are refusals");
+        assert_eq!(refusal.number(), number);
+        assert!(refusal.to_string().starts_with(&format!("refused, {number}: ")), "{refusal}");
+    }
+    assert_eq!((Refusal::of(0), Refusal::of(16)), (None, None));
+    assert_eq!(Refusal::ALL.len(), 15);
+}
+
+/// Each refusal from a call that meets it.
+#[test]
+fn refusals_come_out_as_their_cases() {
+    let l1 = laws::l1();
+    let changed = |at: usize, word: u64| {
+        let mut words = laws::l1();
+        words[at] = word;
+        check(&words).unwrap_err()
+    };
+    assert_eq!(check(&l1[..34]), Err(Refusal::Length));
+    assert_eq!(changed(0, 65), Refusal::Range);
+    assert_eq!(changed(5, 1), Refusal::GoalRow);
+    assert_eq!(changed(3, 32), Refusal::Fact);
+    assert_eq!(changed(15, 2), Refusal::Owner);
+    assert_eq!(changed(17, 2), Refusal::Wait);
+    assert_eq!(step(&l1, 4, 1), Err(Refusal::Action));
+    assert_eq!(solo_replay(&l1, 2, &[]), Err(Refusal::Member));
+    assert_eq!(solo_replay(&l1, 0, &[2]), Err(Refusal::Others));
+    assert_eq!(solo_search(&l1, 0, &mut [0; 3], &mut [0; 3]), Err(Refusal::Full));
+    assert_eq!(solo_search(&l1, 0, &mut [0; 4], &mut [0; 3]), Err(Refusal::Short));
+    assert_eq!(joint_replay(&l1, &[0, 1, 2, 3], &[2], &[]), Err(Refusal::Ends));
+    assert_eq!(joint_replay(&l1, &[0, 2, 3], &[1, 3], &[]), Err(Refusal::NoSolution));
+    assert_eq!(joint_replay(&l1, &[0, 1, 2, 3], &[2, 4], &[0, 1]), Err(Refusal::Pick));
+    assert_eq!(read(b"5,2,4,1,0\n"), Err(Refusal::Text));
+}
+
+#[test]
+fn a_text_is_read() {
+    assert_eq!(read(of_words(&laws::l1()).as_bytes()), Ok(laws::l1()));
+    assert_eq!(check(&laws::l1()), Ok(()));
+}
+
+#[test]
+fn steps_and_plans() {
+    let l1 = laws::l1();
+    assert_eq!(step(&l1, 0, 1), Ok(Step::Go(2)));
+    assert_eq!(step(&l1, 0, 2), Ok(Step::Wait));
+    assert_eq!(step(&l1, 1, 1), Ok(Step::Collision));
+    assert_eq!(solo_replay(&l1, 0, &[0, 1]), Ok(SoloReplay::Solves));
+    assert_eq!(solo_replay(&l1, 0, &[0, 0, 1]), Ok(SoloReplay::Breaks(1)));
+    assert_eq!(solo_replay(&l1, 0, &[0]), Ok(SoloReplay::Short));
+    let (mut table, mut marks) = ([9; 5], [9; 5]);
+    assert_eq!(solo_search(&l1, 0, &mut table, &mut marks), Ok(SoloSearch { copies: 4, live: true }));
+    assert_eq!((table, marks), ([1, 2, 5, 6, 0], [1, 1, 1, 1, 0]));
+    let found = solo_search(&laws::l4(), 1, &mut table, &mut marks);
+    assert_eq!(found.map(|found| found.live), Ok(false));
+}
+
+#[test]
+fn a_run_is_picked_to_its_end() {
+    let (l1, plans, ends) = (laws::l1(), [0, 1, 2, 3], [2, 4]);
+    let mut run = Run::start(&l1).unwrap();
+    assert_eq!((run.shared(), run.collided(), run.places()), (1, false, &[0; 8][..]));
+    assert_eq!(run.pick(&l1, &plans, &ends, 1), Ok(Picked::Go));
+    assert_eq!((run.shared(), run.places()[1]), (8, 1));
+    assert_eq!(run.pick(&l1, &plans, &ends, 0), Err(Refusal::Pick));
+    for member in [1, 0, 0] {
+        assert_eq!(run.pick(&l1, &plans, &ends, member), Ok(Picked::Go));
+    }
+    let replay = joint_replay(&l1, &plans, &ends, &[1, 1, 0, 0]);
+    assert_eq!(replay, Ok(Replay { outcome: Outcome::Success, picks: 4, shared: run.shared() }));
+
+    let l2 = laws::l2();
+    let mut run = Run::start(&l2).unwrap();
+    assert_eq!(run.pick(&l2, &plans, &ends, 0), Ok(Picked::Go));
+    assert_eq!(run.pick(&l2, &plans, &ends, 1), Ok(Picked::Collision));
+    assert!(run.collided());
+    assert_eq!(Run::of_words(*run.words()), run);
+    assert_eq!(Run::start(&l1[..4]), Err(Refusal::Length));
+}
+
+/// Each outcome of a replay, and each verdict; a conflict replays to its verdict.
+#[test]
+fn verdicts_and_outcomes() {
+    let outcome = |law: &[u64], plans: &[u16], ends: &[u64], picks: &[u8]| {
+        joint_replay(law, plans, ends, picks).map(|replay| replay.outcome)
+    };
+    assert_eq!(outcome(&laws::l1(), &[0, 1, 2, 3], &[2, 4], &[]), Ok(Outcome::Open));
+    for (law, expected) in [
+        (laws::l1(), Verdict::Robust { configurations: 12 }),
+        (laws::l2(), Verdict::Collision { picks: 1 }),
+        (laws::l3(), Verdict::Deadlock { picks: 3 }),
+        (laws::l4(), Verdict::Unsolvable { member: 1 }),
+        (laws::l7(), Verdict::Missed { member: 0, picks: 2 }),
+    ] {
+        let mut room = Room::new(law[1] as usize, 8, 16);
+        let found = verdict(&law, &mut room).unwrap();
+        assert_eq!(found, expected);
+        let replayed = room
+            .conflict(found)
+            .map(|(plans, picks)| outcome(&law, plans, &room.ends, picks).expect("a conflict is not refused"));
+        let told = match found {
+            Verdict::Robust { .. } | Verdict::Unsolvable { .. } => None,
+            Verdict::Collision { .. } => Some(Outcome::Collision),
+            Verdict::Deadlock { .. } => Some(Outcome::Deadlock),
+            Verdict::Missed { member, .. } => Some(Outcome::Missed(member)),
+        };
+        assert_eq!(replayed, told);
+    }
+    assert_eq!(verdict(&laws::l1(), &mut Room::new(2, 4, 11)), Err(Refusal::Full));
+}
