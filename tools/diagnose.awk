@@ -42,9 +42,11 @@ function text(    at, c) {
         c = byte[at]
         if (record > RECORDS)
             tell(15, "record " record ": a text has at most " RECORDS " records")
-        if (c >= 48 && c <= 57)
+        if (c >= 48 && c <= 57) {
             digits = digits (c - 48)
-        else if (c == 44) {
+            if (length(digits) > 40)
+                end_field()
+        } else if (c == 44) {
             end_field()
             if (field == 5)
                 tell(15, "record " record " has a sixth field; a record has five")
@@ -96,7 +98,7 @@ function end_field(    where) {
 
 # The front of a number that goes on and on.
 function shown(number) {
-    return length(number) > 40 ? substr(number, 1, 40) ".. (" length(number) " digits)" : number
+    return length(number) > 40 ? substr(number, 1, 40) ".." : number
 }
 
 # A byte that stands in no text.

@@ -2,8 +2,8 @@
 
 use compare as _;
 use lawcheck::{
-    check, joint_replay, raw, read, solo_replay, solo_search, step, verdict, Outcome, Picked, Refusal, Replay, Room,
-    Run, SoloReplay, SoloSearch, Step, Verdict,
+    check, joint_replay, raw, read, solo_replay, solo_search, step, verdict, Outcome, Picked, Refusal,
+    Replay, Room, Run, SoloReplay, SoloSearch, Step, Verdict,
 };
 use reference::generate::text::of_words;
 use reference::laws;
@@ -16,7 +16,8 @@ fn the_constants_are_the_headers() {
         .filter_map(|part| part.trim().trim_end_matches("};").strip_prefix("LAWCHECK_")?.split_once(" = "))
         .map(|(name, rest)| (name.to_string(), rest.split(' ').next().unwrap().parse().expect(name)))
         .collect();
-    let mut ours: Vec<(String, u64)> = raw::CONSTANTS.iter().map(|&(name, number)| (name.to_string(), number)).collect();
+    let mut ours: Vec<(String, u64)> =
+        raw::CONSTANTS.iter().map(|&(name, number)| (name.to_string(), number)).collect();
     told.sort();
     ours.sort();
     assert!(told.len() > 40, "the header's constants are found: {told:?}");
@@ -122,9 +123,9 @@ fn verdicts_and_outcomes() {
         let mut room = Room::new(law[1] as usize, 8, 16);
         let found = verdict(&law, &mut room).unwrap();
         assert_eq!(found, expected);
-        let replayed = room
-            .conflict(found)
-            .map(|(plans, picks)| outcome(&law, plans, &room.ends, picks).expect("a conflict is not refused"));
+        let replayed = room.conflict(found).map(|(plans, picks)| {
+            outcome(&law, plans, &room.ends, picks).expect("a conflict is not refused")
+        });
         let told = match found {
             Verdict::Robust { .. } | Verdict::Unsolvable { .. } => None,
             Verdict::Collision { .. } => Some(Outcome::Collision),
