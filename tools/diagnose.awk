@@ -216,73 +216,84 @@ function tables(    member, room) {
             int(CONFIGURATIONS / (members + 1)) " rows (" CONFIGURATIONS " words / (" members " + 1))")
 }
 
-# Whether a member has more than so many local copies. A copy is four numbers of 16 bits, and holds[] the facts of the one that
-# is worked through.
-function exceeds(member, room,    action, row, own, f, p, k, at, rows, low, key) {
-    split("", copy)
+# Whether a member has more than so many local copies. A copy is four parts of 16 facts each, every part a number; what an
+# action makes of a part is kept once it is known, since there are far fewer parts than copies.
+function exceeds(member, room,    row, own, at, rows, a, w, x, y, z, key) {
     split("", listed)
     own = 0
-    for (action = 0; action < actions; action++) {
-        row = 1 + members + action
-        if (word[row, 1] + 0 != member)
-            continue
-        needs[own] = sets[own] = clears[own] = 0
-        for (f = 0; f < facts; f++) {
-            if ((row, 2, f) in has)
-                need[own, needs[own]++] = f
-            if ((row, 4, f) in has)
-                set[own, sets[own]++] = f
-            else if ((row, 5, f) in has)
-                clear[own, clears[own]++] = f
+    for (row = 1 + members; row <= members + actions; row++)
+        if (word[row, 1] + 0 == member) {
+            effect0[own] = effect(row, 0)
+            effect1[own] = effect(row, 1)
+            effect2[own] = effect(row, 2)
+            effect3[own++] = effect(row, 3)
         }
-        own++
-    }
-    for (f = 0; f < 64; f++) {
-        quarter[f] = int(f / 16)
-        value[f] = 2 ^ (f % 16)
-    }
-    for (p = 0; p < 4; p++)
-        copy[0, p] = 0
-    for (f = 0; f < facts; f++)
-        if ((0, 4, f) in has)
-            copy[0, quarter[f]] += value[f]
-    listed[copy[0, 0], copy[0, 1], copy[0, 2], copy[0, 3]] = 1
+    part0[0] = part(0, 4, 0)
+    part1[0] = part(0, 4, 1)
+    part2[0] = part(0, 4, 2)
+    part3[0] = part(0, 4, 3)
+    listed[part0[0] " " part1[0] " " part2[0] " " part3[0]] = 1
     rows = 1
-    for (at = 0; at < rows; at++) {
-        for (p = 0; p < 4; p++) {
-            low = copy[at, p]
-            for (f = 16 * p; f < 16 * p + 16 && f < facts; f++) {
-                holds[f] = low % 2
-                low = (low - holds[f]) / 2
-            }
-        }
-        for (action = 0; action < own; action++) {
-            for (k = 0; k < needs[action] && holds[need[action, k]]; k++)
-                ;
-            if (k < needs[action])
+    for (at = 0; at < rows; at++)
+        for (a = 0; a < own; a++) {
+            if ((w = made(effect0[a], part0[at])) == "" || (x = made(effect1[a], part1[at])) == "")
                 continue
-            for (p = 0; p < 4; p++)
-                new[p] = copy[at, p]
-            for (k = 0; k < sets[action]; k++) {
-                f = set[action, k]
-                if (!holds[f])
-                    new[quarter[f]] += value[f]
-            }
-            for (k = 0; k < clears[action]; k++) {
-                f = clear[action, k]
-                if (holds[f])
-                    new[quarter[f]] -= value[f]
-            }
-            key = new[0] SUBSEP new[1] SUBSEP new[2] SUBSEP new[3]
+            if ((y = made(effect2[a], part2[at])) == "" || (z = made(effect3[a], part3[at])) == "")
+                continue
+            key = w " " x " " y " " z
             if (key in listed)
                 continue
             if (rows == room)
                 return 1
             listed[key] = 1
-            for (p = 0; p < 4; p++)
-                copy[rows, p] = new[p]
-            rows++
+            part0[rows] = w
+            part1[rows] = x
+            part2[rows] = y
+            part3[rows++] = z
         }
-    }
     return 0
+}
+
+# Part p of a mask, as a string.
+function part(row, column, p,    f, sum) {
+    sum = 0
+    for (f = 16 * p + 15; f >= 16 * p; f--)
+        sum = 2 * sum + ((row, column, f) in has)
+    return sum ""
+}
+
+# What an action needs, adds and deletes in part p, or nothing at all.
+function effect(row, p,    all) {
+    all = part(row, 2, p) " " part(row, 4, p) " " part(row, 5, p)
+    return all == "0 0 0" ? "" : all
+}
+
+# What an action makes of a part of a copy: empty where it needs more than that has.
+function made(does, old,    key, masks, bit, value, need, add, del, rest, new) {
+    if (does == "")
+        return old
+    key = does " " old
+    if (key in known)
+        return known[key]
+    split(does, masks, " ")
+    need = masks[1]
+    add = masks[2]
+    del = masks[3]
+    rest = old
+    new = 0
+    value = 1
+    for (bit = 0; bit < 16; bit++) {
+        if (need % 2 && !(rest % 2)) {
+            known[key] = ""
+            return ""
+        }
+        if (add % 2 || rest % 2 && !(del % 2))
+            new += value
+        need = int(need / 2)
+        add = int(add / 2)
+        del = int(del / 2)
+        rest = int(rest / 2)
+        value *= 2
+    }
+    return known[key] = new ""
 }
