@@ -1,12 +1,15 @@
-# Why a text is refused, and where: a second, plain reading of the text and of the task check, for people. The verdict comes from
-# the proved program alone; ./lawcheck shows what is printed here only where the number is the verdict file's.
+# Why a text is refused, and where: a second, plain reading of the text and of the task check, for
+# people. The verdict comes from the proved program alone; ./lawcheck shows what is printed here
+# only where the number is the verdict file's.
 #
 #   od -An -v -tu1 TEXT | LC_ALL=C awk -v refusal=NUMBER -f tools/diagnose.awk
 #
-# Prints the refusal's number, a blank and the message, or nothing where it finds no reason. NUMBER is the verdict file's: a text
-# without other fault, whose members all have room, is refused with 9 for its configurations.
+# Prints the refusal's number, a blank and the message, or nothing where it finds no reason. NUMBER
+# is the verdict file's: a text without other fault, whose members all have room, is refused with 9
+# for its configurations.
 #
-# Numbers stay strings of digits, and masks become sets of facts, since a number of awk does not hold 64 bits.
+# Numbers stay strings of digits, and masks become sets of facts, since a number of awk does not
+# hold 64 bits.
 
 BEGIN {
     MOST = "18446744073709551615"
@@ -216,8 +219,9 @@ function tables(    member, room) {
             int(CONFIGURATIONS / (members + 1)) " rows (" CONFIGURATIONS " words / (" members " + 1))")
 }
 
-# Whether a member has more than so many local copies. A copy is four parts of 16 facts each, every part a number; what an
-# action makes of a part is kept once it is known, since there are far fewer parts than copies.
+# Whether a member has more than so many local copies. A copy is four parts of 16 facts each, every
+# part a number; what an action makes of a part is kept once it is known, since there are far fewer
+# parts than copies.
 function exceeds(member, room,    row, own, at, rows, a, w, x, y, z, key) {
     split("", listed)
     own = 0
