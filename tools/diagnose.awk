@@ -184,20 +184,20 @@ function in_range(column, name, least, most) {
 }
 
 # The facts of a mask, as has[row, column, fact]; none may stand at or above F.
-function mask(row, column, name,    number, f, part, parts, i, rest) {
+function mask(row, column, name,    number, f, digit, half, i, rest) {
     number = word[row, column]
     for (f = 0; f < 64 && number != "0"; f++) {
         # Half of the number, digit by digit; what is left over is its lowest bit.
-        parts = ""
+        half = ""
         rest = 0
         for (i = 1; i <= length(number); i++) {
-            part = rest * 10 + substr(number, i, 1)
-            rest = part % 2
-            part = (part - rest) / 2
-            if (parts != "" || part > 0)
-                parts = parts part
+            digit = rest * 10 + substr(number, i, 1)
+            rest = digit % 2
+            digit = (digit - rest) / 2
+            if (half != "" || digit > 0)
+                half = half digit
         }
-        number = parts == "" ? "0" : parts
+        number = half == "" ? "0" : half
         if (!rest)
             continue
         if (f >= facts)
