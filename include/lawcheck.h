@@ -162,7 +162,8 @@ uint64_t lawcheck_joint_replay(const uint64_t *task, size_t task_len,
  *
  * Each pick looks at the task and at all plans anew, since it is handed them anew: its time grows with
  * task_len + plans_len, and a run of as many picks as there are steps takes the square of that. Picks that are
- * known beforehand are done by one lawcheck_joint_replay, which looks at the plans once.
+ * known beforehand are done by one lawcheck_play, or from the start by lawcheck_joint_replay: both look at the
+ * plans once.
  *
  * out: 0 go, 1 collision.
  * Refuses with 14 where run_len is below 10 or out_len below 1; as lawcheck_joint_replay up to 12; 4 a bit of
@@ -173,6 +174,27 @@ uint64_t lawcheck_pick(const uint64_t *task, size_t task_len,
                        const uint16_t *plans, size_t plans_len,
                        const uint64_t *ends, size_t ends_len,
                        uint64_t *run, size_t run_len, uint8_t member, uint64_t *out, size_t out_len);
+
+/* The start of a run: 0, places 0 and I, written to run's ten words.
+ *
+ * Refuses with 14 where run_len is below 10; the task check.
+ */
+uint64_t lawcheck_start(const uint64_t *task, size_t task_len, uint64_t *run, size_t run_len);
+
+/* A list of picks on a run that the caller holds, done in turn; the plans are looked at once, and so are the
+ * run's words.
+ *
+ * Each pick meets the run as the last one left it. One that is not possible is passed over and changes nothing.
+ * answers has a number for each pick: 0 go, 1 collision, or the refusal that lawcheck_pick has for it there,
+ * 8 no such member or 13 (no step left, waiting, or already collided); the rest of it stays as it was.
+ * Refuses with 14 where run_len is below 10 or answers_len below picks_len; as lawcheck_pick up to 11, a place
+ * past its plan's end.
+ */
+uint64_t lawcheck_play(const uint64_t *task, size_t task_len,
+                       const uint16_t *plans, size_t plans_len,
+                       const uint64_t *ends, size_t ends_len,
+                       uint64_t *run, size_t run_len, const uint8_t *picks, size_t picks_len,
+                       uint64_t *answers, size_t answers_len);
 
 /* Whether a law is robust: no choice of solving plans and no order of picks ends in a fault.
  *

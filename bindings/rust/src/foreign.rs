@@ -62,6 +62,23 @@ extern "C" {
         out_len: usize,
     ) -> u64;
 
+    pub fn lawcheck_start(task: *const u64, task_len: usize, run: *mut u64, run_len: usize) -> u64;
+
+    pub fn lawcheck_play(
+        task: *const u64,
+        task_len: usize,
+        plans: *const u16,
+        plans_len: usize,
+        ends: *const u64,
+        ends_len: usize,
+        run: *mut u64,
+        run_len: usize,
+        picks: *const u8,
+        picks_len: usize,
+        answers: *mut u64,
+        answers_len: usize,
+    ) -> u64;
+
     pub fn lawcheck_verdict(
         task: *const u64,
         task_len: usize,

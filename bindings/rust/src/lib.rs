@@ -201,9 +201,8 @@ pub struct Run {
 impl Run {
     /// A run at its start: the task's initial copy, all places 0.
     pub fn start(task: &[u64]) -> Result<Run, Refusal> {
-        check(task)?;
         let mut words = [0; raw::RUN_WORDS];
-        words[raw::RUN_SHARED] = task[3];
+        answered(raw::start(task, &mut words))?;
         Ok(Run { words })
     }
 
@@ -229,8 +228,8 @@ impl Run {
         self.words[raw::RUN_SHARED]
     }
 
-    /// Does a member's next step. Each pick looks at all plans anew; a list of picks from the start is best
-    /// done by [`joint_replay`], which looks at them once.
+    /// Does a member's next step. Each pick looks at all plans anew; [`Run::play`] does a list of picks and
+    /// looks at them once.
     pub fn pick(&mut self, task: &[u64], plans: &[u16], ends: &[u64], member: u8) -> Result<Picked, Refusal> {
         let mut out = [0; raw::PICK_OUT];
         answered(raw::pick(task, plans, ends, &mut self.words, member, &mut out))?;
@@ -239,6 +238,29 @@ impl Run {
             raw::PICK_COLLISION => Picked::Collision,
             number => unknown(number),
         })
+    }
+}
+
+impl Run {
+    /// Does picks in turn, each where the last one left the run: what each answers, a refusal for one that is
+    /// not possible there and was passed over.
+    pub fn play(
+        &mut self,
+        task: &[u64],
+        plans: &[u16],
+        ends: &[u64],
+        picks: &[u8],
+    ) -> Result<Vec<Result<Picked, Refusal>>, Refusal> {
+        let mut answers = vec![0; picks.len()];
+        answered(raw::play(task, plans, ends, &mut self.words, picks, &mut answers))?;
+        Ok(answers
+            .into_iter()
+            .map(|number| match number {
+                raw::PICK_GO => Ok(Picked::Go),
+                raw::PICK_COLLISION => Ok(Picked::Collision),
+                number => Err(Refusal::of(number).unwrap_or_else(|| unknown(number))),
+            })
+            .collect())
     }
 }
 

@@ -116,6 +116,39 @@ pub fn pick(task: &[u64], plans: &[u16], ends: &[u64], run: &mut [u64], member: 
     }
 }
 
+/// The start of a run, written to its ten words.
+pub fn start(task: &[u64], run: &mut [u64]) -> u64 {
+    unsafe { lawcheck_start(task.as_ptr(), task.len(), run.as_mut_ptr(), run.len()) }
+}
+
+/// Picks on a run in turn, impossible ones passed over. `answers`: 0 go, 1 collision, 8 or 13 for each pick.
+#[allow(clippy::too_many_arguments)]
+pub fn play(
+    task: &[u64],
+    plans: &[u16],
+    ends: &[u64],
+    run: &mut [u64],
+    picks: &[u8],
+    answers: &mut [u64],
+) -> u64 {
+    unsafe {
+        lawcheck_play(
+            task.as_ptr(),
+            task.len(),
+            plans.as_ptr(),
+            plans.len(),
+            ends.as_ptr(),
+            ends.len(),
+            run.as_mut_ptr(),
+            run.len(),
+            picks.as_ptr(),
+            picks.len(),
+            answers.as_mut_ptr(),
+            answers.len(),
+        )
+    }
+}
+
 /// The verdict. `out`: 0 robust, 1 unsolvable, 2 collision, 3 deadlock, 4 missed; the member; the count of
 /// configurations or the picks done.
 #[allow(clippy::too_many_arguments)]

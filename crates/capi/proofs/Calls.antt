@@ -13,40 +13,39 @@ use Rattle.semantics.specs.Solo.{soloReplay, soloSearch, SoloSearch}
 use Rattle.semantics.specs.Run.{jointReplay, pickOn}
 use Rattle.semantics.specs.Run as Paper
 use Rattle.semantics.specs.Text.{readText, Reading}
-use Rattle.semantics.specs.Verdict.{Lent, VerdictMeans}
+use Rattle.semantics.specs.Verdict.{Slices, VerdictMeans}
 use Rattle.mask.specs.Number.{number}
 use Rattle.mask.specs.declared.Mask.{Mask}
 use Rattle.step.specs.Value.{decisionOf, steppedOf}
 use Rattle.step.specs.declared.Decision.{Decision}
 use Rattle.step.specs.declared.Stepped.{Stepped}
 use Rattle.step.specs.declared.Stepped.the-variants as stepped
-use Rattle.solo.specs.Value as soloValue
-use Rattle.solo.specs.declared.Solo.{Solo}
-use Rattle.solo.specs.declared.Replayed as soloReplayed
-use Rattle.solo.specs.declared.Replayed.the-variants as solved
-use Rattle.search.specs.Value.{searchedOf}
-use Rattle.search.specs.declared.SearchAnswer.{SearchAnswer}
-use Rattle.search.specs.declared.SearchAnswer.the-variants as search′
-use Rattle.picks.specs.Value as picksValue
-use Rattle.picks.specs.Value.{runOf, outcomeOf, PickMeans}
-use Rattle.picks.specs.declared.Replay.{Replay}
-use Rattle.picks.specs.declared.Replayed.{Replayed}
-use Rattle.picks.specs.declared.Replayed.the-variants as replayed
-use Rattle.picks.specs.declared.Run.{Run}
-use Rattle.picks.specs.declared.Picked.{Picked}
-use Rattle.picks.specs.declared.Answer.the-variants as answer
+use Rattle.solo_replay.specs.Value as soloValue
+use Rattle.solo_replay.specs.declared.Solo.{Solo}
+use Rattle.solo_replay.specs.declared.Replayed as soloReplayed
+use Rattle.solo_replay.specs.declared.Replayed.the-variants as solved
+use Rattle.solo_search.specs.Value.{searchedOf}
+use Rattle.solo_search.specs.declared.SearchAnswer.{SearchAnswer}
+use Rattle.solo_search.specs.declared.SearchAnswer.the-variants as search′
+use Rattle.run_pick.specs.Value as picksValue
+use Rattle.run_pick.specs.Value.{runOf, outcomeOf, PickMeans}
+use Rattle.run_pick.specs.declared.Replay.{Replay}
+use Rattle.run_pick.specs.declared.Replayed.{Replayed}
+use Rattle.run_pick.specs.declared.Replayed.the-variants as replayed
+use Rattle.run_pick.specs.declared.Run.{Run}
+use Rattle.run_pick.specs.declared.Picked.{Picked}
+use Rattle.run_pick.specs.declared.Answer.the-variants as answer
 use Rattle.theory.proofs.Lists.{or-left, or-right}
-use Rattle.picks.proofs.Laws.{means-go, means-collision, means-refused}
+use Rattle.run_pick.proofs.Laws.{means-go, means-collision, means-refused}
 use Rattle.text.specs.Post.{reading}
 use Rattle.text.specs.declared.TextRead.{TextRead}
 use Rattle.text.specs.declared.TextRead.the-variants as textRead
 use Rattle.verdict.specs.Value.{answerOf}
 use Rattle.verdict.specs.declared.VerdictAnswer.{VerdictAnswer}
-use Rattle.verdict.specs.declared.VerdictAnswer.the-variants as verdict
-use Rattle.capi.specs.Call.{Call, call, front, told, unlessShort, called, verdictCall}
-use Rattle.capi.specs.Numbers as numbers
-use Rattle.capi.specs.Runs.{runWords, runIn, wordsOf, after}
-use Rattle.capi.proofs.Told.{byte}
+use Rattle.capi_numbers.specs.Call.{Call, call, front, told, unlessShort, called, verdictCall}
+use Rattle.capi_numbers.specs.Numbers as numbers
+use Rattle.capi_numbers.specs.Runs.{runWords, runIn, wordsOf, after}
+use Rattle.capi_numbers.proofs.Told.{byte}
 
 -- ---- any operation
 
@@ -262,38 +261,12 @@ module _ (text words out : List ℕ) where
 
 -- ---- the verdict
 
-module _ (v : VerdictAnswer) (out : List ℕ) where
-  abbrev TellCall : Call → Type 0
-  TellCall c = c ≡ told numbers.verdict out (answerOf v)
-
-  tells : (x : VerdictAnswer) (c : Call) → v ≡ x → c ≡ told numbers.verdict out (answerOf x) → TellCall c
-  tells x c so e = e ∙ sym (ap (λ (y : VerdictAnswer). told numbers.verdict out (answerOf y)) so)
-
-  pub tell-refused : (k : ℕ) → v ≡ verdict.Refused k → TellCall (call k out)
-  tell-refused k so = tells (verdict.Refused k) (call k out) so refl
-
-  module _ (r : ℕ) (now : List ℕ) where
-    pub tell-robust : (n : ℕ) → v ≡ verdict.Robust n → call r now ≡ call 0 (front (0 ∷ 0 ∷ n ∷ []) out) → TellCall (call r now)
-    tell-robust n so e = tells (verdict.Robust n) (call r now) so e
-
-    pub tell-unsolvable : (i : ℕ) → v ≡ verdict.Unsolvable i → call r now ≡ call 0 (front (1 ∷ i ∷ 0 ∷ []) out) → TellCall (call r now)
-    tell-unsolvable i so e = tells (verdict.Unsolvable i) (call r now) so e
-
-    pub tell-collision : (k : ℕ) → v ≡ verdict.Collision k → call r now ≡ call 0 (front (2 ∷ 0 ∷ k ∷ []) out) → TellCall (call r now)
-    tell-collision k so e = tells (verdict.Collision k) (call r now) so e
-
-    pub tell-deadlock : (k : ℕ) → v ≡ verdict.Deadlock k → call r now ≡ call 0 (front (3 ∷ 0 ∷ k ∷ []) out) → TellCall (call r now)
-    tell-deadlock k so e = tells (verdict.Deadlock k) (call r now) so e
-
-    pub tell-missed : (i k : ℕ) → v ≡ verdict.Missed i k → call r now ≡ call 0 (front (4 ∷ i ∷ k ∷ []) out) → TellCall (call r now)
-    tell-missed i k so e = tells (verdict.Missed i k) (call r now) so e
-
-module _ (t out : List ℕ) (before : Lent) where
+module _ (t out : List ℕ) (before : Slices) where
   pub verdict-short : length out < 3 → verdictCall (ltb (length out) 3) t before before numbers.verdict out (call 14 out)
   verdict-short h =
       subst (λ (b : Bool). verdictCall b t before before numbers.verdict out (call 14 out)) (sym (lt-ltb (length out) 3 h)) (refl, refl)
 
-  pub verdict-told : 3 ≤ length out → (after′ : Lent) (v : VerdictAnswer) (c : Call) → VerdictMeans t before after′ (answerOf v) → c ≡ told numbers.verdict out (answerOf v)
+  pub verdict-told : 3 ≤ length out → (after′ : Slices) (v : VerdictAnswer) (c : Call) → VerdictMeans t before after′ (answerOf v) → c ≡ told numbers.verdict out (answerOf v)
       → verdictCall (ltb (length out) 3) t before after′ numbers.verdict out c
   verdict-told room after′ v c means e =
       subst (λ (b : Bool). verdictCall b t before after′ numbers.verdict out c) (sym (long out 3 room)) (answerOf v, means, e)

@@ -1,3 +1,2 @@
 pub mod Calls
-pub mod Putting
-pub mod Told
+pub mod Plays

@@ -1,3 +1,1 @@
-pub mod Call
-pub mod Numbers
-pub mod Runs
+pub mod Play

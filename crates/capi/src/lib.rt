@@ -2,34 +2,25 @@
 // answer, whose numbers go to the front of `out`; a slice shorter than stated is refused with 14 before anything else.
 ghost use mathlib.Core.Path.{_≡_};
 ghost use mathlib.Core.Bool.{not, _||_};
-ghost use mathlib.Core.List.{[], _∷_};
-ghost use Prim.Native.Nat.{_≤_};
 ghost use lib.ListN.{length, getD};
 ghost use lib.Dec.{eqb, ltb};
+ghost use Rattle.semantics.specs.Verdict.{lentOf};
 ghost use Rattle.semantics.specs.Task.{check};
 ghost use Rattle.semantics.specs.Step.{step};
 ghost use Rattle.semantics.specs.Solo.{soloReplay, soloSearch};
 ghost use Rattle.semantics.specs.Run.{jointReplay, pickOn};
 ghost use Rattle.semantics.specs.Text.{readText};
-ghost use Rattle.step.specs.Value.{decisionOf};
-ghost use Rattle.solo.specs.Value.{soloOf};
-ghost use Rattle.picks.specs.Value.{runOf, outcomeOf};
-ghost use Rattle.verdict.specs.Value.{lentOf, answerOf};
-ghost use Rattle.capi.specs.Call.{call, front, told, unlessShort, called, verdictCall};
-ghost use Rattle.capi.specs.Numbers as numbers;
-ghost use Rattle.capi.specs.Runs.{runWords, runIn, wordsOf, after};
+ghost use Rattle.capi_numbers.specs.Call.{call, unlessShort, called, verdictCall};
+ghost use Rattle.capi_numbers.specs.Numbers as numbers;
+ghost use Rattle.capi_numbers.specs.Runs.{runWords, runIn, after};
+ghost use Rattle.capi.specs.Play.{StartCall, PlayCall};
 use mask::Shared;
-use picks::Answer;
-use picks::Outcome;
-use picks::Replayed;
-use picks::Run;
-use search::SearchAnswer;
-use solo::Replayed as Solved;
-use solo::Solo;
-use step::Decision;
+use run_pick::Answer;
+use run_pick::Replayed;
+use solo_replay::Replayed as Solved;
+use solo_search::SearchAnswer;
 use step::Stepped;
 use text::TextRead;
-use verdict::VerdictAnswer;
 
 // The refusal of a slice shorter than stated.
 const SHORT: u64 = 14;
@@ -39,18 +30,6 @@ const MASK_WORDS: usize = 1;
 
 // Words of a run.
 const RUN_WORDS: usize = 10;
-
-// The numbers at the front of the slice, the rest as it was.
-fn put(slice: &mut [u64], numbers: &[u64])
-    requires { ⌜ length (now numbers) ≤ length (now slice) ⌝ }
-    ensures { λ _. ⌜ now (slice .exit) ≡ front (now (numbers .entry)) (now (slice .entry)) ⌝ }
-{
-    let mut i = 0;
-    while i < numbers.len() {
-        slice[i] = numbers[i];
-        i += 1;
-    }
-}
 
 // ---- task check
 
@@ -62,16 +41,6 @@ pub extern "C" fn lawcheck_task(t: &[u64]) -> u64
 }
 
 // ---- step
-
-fn decision_numbers(d: Decision) -> [u64; 2]
-    ensures { λ r. ⌜ r ≡ numbers.decision (decisionOf d) ⌝ }
-{
-    match d {
-        Decision::Go(g) => [0, mask::to_word(g.0)],
-        Decision::Wait => [1, 0],
-        Decision::Collision => [2, 0],
-    }
-}
 
 #[no_mangle]
 pub extern "C" fn lawcheck_step(t: &[u64], action: u16, shared: &[u64], out: &mut [u64]) -> u64
@@ -87,24 +56,14 @@ pub extern "C" fn lawcheck_step(t: &[u64], action: u16, shared: &[u64], out: &mu
     match s {
         Stepped::Refused(k) => k,
         Stepped::Gives(d) => {
-            let numbers = decision_numbers(d);
-            put(out, &numbers);
+            let numbers = capi_numbers::decision_numbers(d);
+            capi_numbers::put(out, &numbers);
             0
         }
     }
 }
 
 // ---- solo replay
-
-fn solo_numbers(s: Solo) -> [u64; 2]
-    ensures { λ r. ⌜ r ≡ numbers.solo (soloOf s) ⌝ }
-{
-    match s {
-        Solo::Solves => [0, 0],
-        Solo::Breaks(k) => [1, k as u64],
-        Solo::Short => [2, 0],
-    }
-}
 
 #[no_mangle]
 pub extern "C" fn lawcheck_solo_replay(t: &[u64], member: u8, plan: &[u16], out: &mut [u64]) -> u64
@@ -113,12 +72,12 @@ pub extern "C" fn lawcheck_solo_replay(t: &[u64], member: u8, plan: &[u16], out:
     if out.len() < 2 {
         return SHORT;
     }
-    let s = solo::solo_replay(t, member, plan);
+    let s = solo_replay::solo_replay(t, member, plan);
     match s {
         Solved::Refused(k) => k,
         Solved::Gives(r) => {
-            let numbers = solo_numbers(r);
-            put(out, &numbers);
+            let numbers = capi_numbers::solo_numbers(r);
+            capi_numbers::put(out, &numbers);
             0
         }
     }
@@ -141,30 +100,18 @@ pub extern "C" fn lawcheck_solo_search(
     if out.len() < 2 {
         return SHORT;
     }
-    let s = search::solo_search(t, member, table, marks);
+    let s = solo_search::solo_search(t, member, table, marks);
     match s {
         SearchAnswer::Refused(k) => k,
         SearchAnswer::Found(count, live) => {
             let numbers = [count as u64, live as u64];
-            put(out, &numbers);
+            capi_numbers::put(out, &numbers);
             0
         }
     }
 }
 
 // ---- joint replay
-
-fn replay_numbers(o: Outcome, k: u64, g: u64) -> [u64; 4]
-    ensures { λ r. ⌜ r ≡ numbers.replayed (outcomeOf o) k g ⌝ }
-{
-    match o {
-        Outcome::Success => [0, 0, k, g],
-        Outcome::Collision => [1, 0, k, g],
-        Outcome::Deadlock => [2, 0, k, g],
-        Outcome::Missed(j) => [3, j as u64, k, g],
-        Outcome::Open => [4, 0, k, g],
-    }
-}
 
 #[no_mangle]
 pub extern "C" fn lawcheck_joint_replay(
@@ -179,68 +126,20 @@ pub extern "C" fn lawcheck_joint_replay(
     if out.len() < 4 {
         return SHORT;
     }
-    let s = run::joint_replay(t, plans, ends, picks);
+    let s = run_replay::joint_replay(t, plans, ends, picks);
     match s {
         Replayed::Refused(k) => k,
         Replayed::Gives(r) => {
             let o = r.outcome;
             let g = r.shared;
-            let numbers = replay_numbers(o, r.picked as u64, mask::to_word(g.0));
-            put(out, &numbers);
+            let numbers = capi_numbers::replay_numbers(o, r.picked as u64, mask::to_word(g.0));
+            capi_numbers::put(out, &numbers);
             0
         }
     }
 }
 
-// ---- a pick on a run
-
-// The run that the words hold.
-fn run_of(words: &[u64]) -> Run
-    requires { ⌜ runWords ≤ length (now words) ⌝ }
-    ensures { λ r. ⌜ runOf r ≡ runIn (now (words .entry)) ⌝ }
-{
-    let g = Shared(mask::of_word(words[9]));
-    let places = [
-        words[1],
-        words[2],
-        words[3],
-        words[4],
-        words[5],
-        words[6],
-        words[7],
-        words[8],
-    ];
-    Run {
-        shared: g,
-        places: places,
-        collided: words[0] != 0,
-    }
-}
-
-// The words of a run.
-fn words_of(r: Run) -> [u64; 10]
-    ensures { λ w. ⌜ w ≡ wordsOf (runOf r) ⌝ }
-{
-    let p = r.places;
-    let g = r.shared;
-    let c = r.collided as u64;
-    let w = mask::to_word(g.0);
-    [c, p[0], p[1], p[2], p[3], p[4], p[5], p[6], p[7], w]
-}
-
-// The run after a pick that was done, and the pick's number.
-fn done(words: &mut [u64], r: Run, out: &mut [u64], number: u64) -> u64
-    requires { ⌜ runWords ≤ length (now words) ⌝ }
-    requires { ⌜ 1 ≤ length (now out) ⌝ }
-    ensures { λ c. ⌜ call c (now (out .exit)) ≡ call 0 (front (number ∷ []) (now (out .entry))) ⌝ }
-    ensures { λ _. ⌜ now (words .exit) ≡ front (wordsOf (runOf r)) (now (words .entry)) ⌝ }
-{
-    let w = words_of(r);
-    put(words, &w);
-    let numbers = [number];
-    put(out, &numbers);
-    0
-}
+// ---- a pick on a run: the dispatcher is lent the run that the words hold
 
 #[no_mangle]
 pub extern "C" fn lawcheck_pick(
@@ -260,41 +159,61 @@ pub extern "C" fn lawcheck_pick(
     if out.len() < 1 {
         return SHORT;
     }
-    let p = run::pick(t, plans, ends, run_of(run), member);
+    let p = run_dispatch::once(t, plans, ends, capi_numbers::run_of(run), member);
     let a = p.answer;
     let r = p.run;
     match a {
-        Answer::Go => done(run, r, out, 0),
-        Answer::Collision => done(run, r, out, 1),
+        Answer::Go => capi_numbers::done(run, r, out, 0),
+        Answer::Collision => capi_numbers::done(run, r, out, 1),
         Answer::Refused(k) => k,
     }
 }
 
-// ---- the verdict
+// ---- the start of a run, and a list of picks on it
 
-// The numbers of a verdict that is no refusal.
-fn verdict_numbers(out: &mut [u64], kind: u64, member: usize, number: usize) -> u64
-    requires { ⌜ 3 ≤ length (now out) ⌝ }
-    ensures { λ r. ⌜ call r (now (out .exit)) ≡ call 0 (front (kind ∷ member ∷ number ∷ []) (now (out .entry))) ⌝ }
+#[no_mangle]
+pub extern "C" fn lawcheck_start(t: &[u64], run: &mut [u64]) -> u64
+    ensures { λ r. ⌜ StartCall (now (t .entry)) (now (run .entry)) r (now (run .exit)) ⌝ }
 {
-    let numbers = [kind, member as u64, number as u64];
-    put(out, &numbers);
+    if run.len() < RUN_WORDS {
+        return SHORT;
+    }
+    let s = run_dispatch::start(t);
+    let e = s.refusal;
+    if e != 0 {
+        return e;
+    }
+    let w = capi_numbers::words_of(s.run);
+    capi_numbers::put(run, &w);
     0
 }
 
-fn tell(v: VerdictAnswer, out: &mut [u64]) -> u64
-    requires { ⌜ 3 ≤ length (now out) ⌝ }
-    ensures { λ r. ⌜ call r (now (out .exit)) ≡ told numbers.verdict (now (out .entry)) (answerOf v) ⌝ }
+#[no_mangle]
+pub extern "C" fn lawcheck_play(
+    t: &[u64],
+    plans: &[u16],
+    ends: &[u64],
+    run: &mut [u64],
+    picks: &[u8],
+    answers: &mut [u64],
+) -> u64
+    ensures { λ r. ⌜ PlayCall (now (t .entry)) (now (plans .entry)) (now (ends .entry)) (now (run .entry))
+        (now (picks .entry)) (now (answers .entry)) r (now (run .exit)) (now (answers .exit)) ⌝ }
 {
-    match v {
-        VerdictAnswer::Refused(k) => k,
-        VerdictAnswer::Robust(c) => verdict_numbers(out, 0, 0, c),
-        VerdictAnswer::Unsolvable(i) => verdict_numbers(out, 1, i, 0),
-        VerdictAnswer::Collision(k) => verdict_numbers(out, 2, 0, k),
-        VerdictAnswer::Deadlock(k) => verdict_numbers(out, 3, 0, k),
-        VerdictAnswer::Missed(i, k) => verdict_numbers(out, 4, i, k),
+    if run.len() < RUN_WORDS {
+        return SHORT;
     }
+    let p = run_play::play(t, plans, ends, capi_numbers::run_of(run), picks, answers);
+    let e = p.refusal;
+    if e != 0 {
+        return e;
+    }
+    let w = capi_numbers::words_of(p.run);
+    capi_numbers::put(run, &w);
+    0
 }
+
+// ---- the verdict
 
 #[no_mangle]
 pub extern "C" fn lawcheck_verdict(
@@ -314,7 +233,7 @@ pub extern "C" fn lawcheck_verdict(
         return SHORT;
     }
     let v = verdict::verdict(t, local, marks, confs, trail, plans, ends, picks);
-    tell(v, out)
+    capi_numbers::tell(v, out)
 }
 
 // ---- the text reader
@@ -332,7 +251,7 @@ pub extern "C" fn lawcheck_read(text: &[u8], words: &mut [u64], out: &mut [u64])
         TextRead::Refused(k) => k,
         TextRead::Records(n) => {
             let numbers = [n as u64];
-            put(out, &numbers);
+            capi_numbers::put(out, &numbers);
             0
         }
     }

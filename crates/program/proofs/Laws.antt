@@ -6,16 +6,19 @@ use Prim.Native.Nat.{ℕ, zero, suc, _+_, _-_, _*_, _/_, _≤_, _<_}
 use native.Mathlib.Nat.{mul-div-le, div-lt-iff-lt-mul}
 use native.Mathlib.Numerals.{add-one}
 use native.Mathlib.Omega.{arith}
-use lib.ListN.{length, getD, take, replicate, length-append, length-take, length-replicate, length-map, List·getD-append}
+use lib.ListN.{length, getD, take, replicate, length-append, length-replicate, length-map, List·getD-append}
 use lib.Seq.{take-at}
 use lib.Dec.{eqb, ltb, leb}
 use borrow.Author.Tests.{eqb-true, le-ltb}
-use Rattle.semantics.specs.Base.{upTo, all, _if_, _else_, Answer, refused, gives, unless, padded}
+use Rattle.semantics.specs.Base.{upTo, allOf, _if_, _else_, Answer, refused, gives, _leaves_otherwise_, unless}
+use Rattle.semantics.specs.Base.{padded, zeroed}
 use Rattle.semantics.specs.Task.{rowWidth, check, members}
-use Rattle.semantics.specs.Text.{mostRecords, records, fields, number, isField, isRecord, isText, textWords, Reading, readUnless, readText}
+use Rattle.semantics.specs.Text.{mostRecords, records, fields, number, isField, isRecord, isText, textWords, Reading}
+use Rattle.semantics.specs.Text.{refusedWith, readRecords, readText}
 use Rattle.semantics.specs.Run.{beginning, endsFit, plansOf, plansRefusal, Replay, replay, jointReplay}
 use Rattle.semantics.specs.System.{system, waits}
-use Rattle.semantics.specs.Verdict.{Verdict, unsolvable, notRobust, robust, Finding, Failing, Lent, room, tooShort, Conflict, listedFor, VerdictIs, VerdictMeans, localRows, configurationRows, verdictIn, verdict}
+use Rattle.semantics.specs.Verdict.{Verdict, unsolvable, notRobust, robust, Finding, Failing, Slices, room, tooShort, Conflict, listedFor, VerdictIs, VerdictMeans, localRows, configurationRows, verdictIn, verdict, lentOf}
+use Rattle.theory.proofs.Laid.{Laid, laid-length}
 use Rattle.theory.proofs.Lists.{and-elim}
 use Rattle.theory.proofs.Refusals.{else-both, if-not-true, refused-gives, gives-inj, unless-gives}
 use Rattle.theory.proofs.Accepted.{accepted, accepted-lawful}
@@ -23,11 +26,10 @@ use Rattle.theory.proofs.Verdict.{Found, found}
 use Rattle.text.specs.Post.{mostWords, reading}
 use Rattle.text.specs.declared.TextRead.{TextRead}
 use Rattle.text.specs.declared.TextRead.the-variants.{Records, Refused}
-use Rattle.verdict.specs.Value.{lentOf}
-use Rattle.plans.proofs.Laws.{part}
+use Rattle.run_plans.proofs.Laws.{part}
 use Rattle.report.specs.File.{word, header, line, file}
-use Rattle.report.specs.Put.{mostFile, Put, Holds}
-use Rattle.program.specs.Program.{localWords, configurationWords, K, C, lentFor, Reports, PrintsFor, Prints, mostBytes}
+use Rattle.report.specs.Inner.Put.{mostFile, Holds}
+use Rattle.program.specs.Program.{localWords, configurationWords, K, C, lentFor, Reports, PrintsFor, Prints, AtFront, mostBytes}
 
 -- ---- lengths
 
@@ -92,12 +94,12 @@ long-enough t =
     same n = le-ltb n n (omega arith)
 
 -- so the verdict refuses an accepted task with 9, or not at all
-pub refused-nine : (t : List ℕ) → check t ≡ 0 → (after : Lent) (answer : Answer (Verdict Failing)) (k : ℕ) → VerdictMeans t (lentFor t) after answer → answer ≡ refused k → k ≡ 9
+pub refused-nine : (t : List ℕ) → check t ≡ 0 → (after : Slices) (answer : Answer (Verdict Failing)) (k : ℕ) → VerdictMeans t (lentFor t) after answer → answer ≡ refused k → k ≡ 9
 unfolding verdict
 refused-nine t ok after answer k m e = at (verdict t (room (lentFor t))) refl m
   where
     found-in : Answer Finding
-    found-in = verdictIn (system t) (waits t) (localRows t (room (lentFor t) .localWords)) (configurationRows t (room (lentFor t) .configurationWords))
+    found-in = verdictIn (system t) (waits t) (localRows t (room (lentFor t) .localTable)) (configurationRows t (room (lentFor t) .configurationTable))
 
     searched : verdict t (room (lentFor t)) ≡ found-in
     searched =
@@ -105,7 +107,7 @@ refused-nine t ok after answer k m e = at (verdict t (room (lentFor t))) refl m
         ap (λ (r : ℕ). unless (r else (14 if short)) found-in) ok ∙ ap (λ (b : Bool). unless (14 if b) found-in) (long-enough t)
 
     nine : (j : ℕ) (x : Answer Finding)
-        → Found (system t) (waits t) (accepted-lawful t ok) (localRows t (room (lentFor t) .localWords)) (configurationRows t (room (lentFor t) .configurationWords)) x
+        → Found (system t) (waits t) (accepted-lawful t ok) (localRows t (room (lentFor t) .localTable)) (configurationRows t (room (lentFor t) .configurationTable)) x
         → x ≡ refused j → j ≡ 9
     nine j x (Found.copies-full h l) g = cc
     nine j x (Found.dead fits h dead lower) g = absurd (refused-gives (sym g))
@@ -116,15 +118,15 @@ refused-nine t ok after answer k m e = at (verdict t (room (lentFor t))) refl m
     at : (f : Answer Finding) → verdict t (room (lentFor t)) ≡ f → VerdictIs t (lentFor t) after answer f → k ≡ 9
     at (refused j) g m =
         let same : j ≡ k = cc (sym (m .0) ∙ e) in
-        sym same ∙ nine j found-in (found (system t) (waits t) (accepted-lawful t ok) (localRows t (room (lentFor t) .localWords)) (configurationRows t (room (lentFor t) .configurationWords))) (sym searched ∙ g)
+        sym same ∙ nine j found-in (found (system t) (waits t) (accepted-lawful t ok) (localRows t (room (lentFor t) .localTable)) (configurationRows t (room (lentFor t) .configurationTable))) (sym searched ∙ g)
     at (gives (unsolvable i)) g m = absurd (refused-gives (sym e ∙ m .0))
     at (gives (robust c)) g m = absurd (refused-gives (sym e ∙ m .0))
     at (gives (notRobust u)) g m = absurd (refused-gives (sym e ∙ m .1))
 
 -- ---- what is put lies in the slice
 
-pub put-within : {out bytes out′ : List ℕ} {r : ℕ} → Put out 0 bytes out′ r → r ≤ length out′
-put-within {out′ = out′} {r = r} p = omega (arith, p .count, length-take r out′, ap length (p .held))
+pub front-within : {P : List ℕ → Type 0} {before after : List ℕ} {r : ℕ} → AtFront P before after r → r ≤ length after
+front-within f = let l = f .laid in omega (arith, l .inside, laid-length l)
 
 -- ---- the slices of a conflict
 
@@ -148,9 +150,9 @@ replays-fit t plans ends picks e =
 ends-many : (n : ℕ) (plans ends : List ℕ) → endsFit n plans ends ≡ true → length ends ≡ n
 unfolding endsFit
 ends-many n plans ends fit =
-    eqb-true (length ends) n (and-elim (eqb (length ends) n) _ (and-elim (eqb (length ends) n && all (λ j. leb (beginning ends j) (getD ends j 0)) (upTo n)) _ fit .0) .0)
+    eqb-true (length ends) n (and-elim (eqb (length ends) n) _ (and-elim (eqb (length ends) n && allOf (λ j. leb (beginning ends j) (getD ends j 0)) (upTo n)) _ fit .0) .0)
 
-module _ (t : List ℕ) (before after : Lent) (answer : Answer (Verdict Failing)) where
+module _ (t : List ℕ) (before after : Slices) (answer : Answer (Verdict Failing)) where
   conflict-holds : (told : Failing) (listed : ℕ) → Conflict t told listed before after → Holds (gives (notRobust told)) (members t) (after .plans) (after .ends) (after .picks)
   conflict-holds told listed c =
       let n = members t in
@@ -184,42 +186,46 @@ module _ (t : List ℕ) (before after : Lent) (answer : Answer (Verdict Failing)
       at (gives (robust c)) m = rw (m .0) tt
       at (gives (notRobust u)) m = rw (m .1) (conflict-holds (m .0) (length (listedFor t before)) (m .3))
 
-  -- the bytes that are put are the file of the answer
+  -- the bytes that are laid are the file of the answer
   pub reports : before ≡ lentFor t → VerdictMeans t before after answer → (n : ℕ) → n ≡ members t → (out out′ : List ℕ) (r : ℕ)
-      → Put out 0 (file answer n (after .plans) (after .ends) (after .picks)) out′ r → (r ≤ length out′) × Reports t (take r out′)
-  reports lent means n e out out′ r p = (
-    put-within p,
-    record {
-      answer = answer;
-      after = after;
-      means = subst (λ (l : Lent). VerdictMeans t l after answer) lent means;
-      lines = p .held ∙ ap (λ (k : ℕ). file answer k (after .plans) (after .ends) (after .picks)) e;
-    },
-  )
+      → Laid (file answer n (after .plans) (after .ends) (after .picks)) out 0 out′ r → AtFront (Reports t) out out′ r
+  reports lent means n e out out′ r l =
+      record {
+        bytes = file answer n (after .plans) (after .ends) (after .picks);
+        means =
+            record {
+              answer = answer;
+              after = after;
+              means = subst (λ (l : Slices). VerdictMeans t l after answer) lent means;
+              lines = ap (λ (k : ℕ). file answer k (after .plans) (after .ends) (after .picks)) e;
+            };
+        laid = l;
+      }
 
   -- the file fits
   pub file-fits : check t ≡ 0 → before ≡ lentFor t → length (after .plans) ≡ length (before .plans) → length (after .picks) ≡ length (before .picks)
       → mostFile (1 + members t + length (after .plans) + length (after .picks)) ≤ mostBytes
   unfolding lentFor
   file-fits ok lent p q =
-      let e : length (before .plans) ≡ C t + members t * K t = ap (λ (l : Lent). length (l .plans)) lent ∙ length-replicate {A = ℕ} (C t + members t * K t) 0 in
-      let f : length (before .picks) ≡ C t = ap (λ (l : Lent). length (l .picks)) lent ∙ length-replicate {A = ℕ} (C t) 0 in
+      let e : length (before .plans) ≡ C t + members t * K t = ap (λ (l : Slices). length (l .plans)) lent ∙ length-replicate {A = ℕ} (C t + members t * K t) 0 in
+      let f : length (before .picks) ≡ C t = ap (λ (l : Slices). length (l .picks)) lent ∙ length-replicate {A = ℕ} (C t) 0 in
       let g : configurationWords / (members t + 1) ≡ C t = rw add-one in
       omega (arith, rows-most (members t), configurations-most (members t) (accepted t ok .some-members), accepted t ok .few-members)
 
 -- ---- the reader
 
 -- every record of a text gives five words
-words-length : (rs : List (List ℕ)) → all isRecord rs ≡ true → length (flatten (map (λ r. map number (fields r)) rs)) ≡ rowWidth * length rs
-unfolding all isRecord flatten
+words-length : (rs : List (List ℕ)) → allOf (isRecord rowWidth) rs ≡ true
+    → length (flatten (map (λ r. map number (fields r)) rs)) ≡ rowWidth * length rs
+unfolding allOf isRecord flatten
 words-length [] h = refl
 words-length (r ∷ rs) h =
-    let (a, b) = and-elim (isRecord r) (all isRecord rs) h in
+    let (a, b) = and-elim (isRecord rowWidth r) (allOf (isRecord rowWidth) rs) h in
     omega (
       arith,
       length-append (map number (fields r)) (flatten (map (λ r. map number (fields r)) rs)),
       length-map (fields r) number,
-      eqb-true (length (fields r)) rowWidth (and-elim (eqb (length (fields r)) rowWidth) (all isField (fields r)) a .0),
+      eqb-true (length (fields r)) rowWidth (and-elim (eqb (length (fields r)) rowWidth) (allOf isField (fields r)) a .0),
       words-length rs b,
     )
 
@@ -232,15 +238,17 @@ pub record Words (text words out : List ℕ) (n : ℕ) : Type 0 where
 
 module _ (text words out : List ℕ) (long : mostWords ≤ length words) (r : TextRead) (e : reading r out ≡ readText text words) where
   pub words-of : (n : ℕ) → r ≡ Records n → Words text words out n
-  unfolding readText textWords isText
+  unfolding readText readRecords textWords isText
   words-of n f =
       let g : reading (Records n) out ≡ readText text words = subst (λ (q : TextRead). reading q out ≡ readText text words) f e in
-      let (x, h) = unrefused (14 if ltb (length words) mostWords) ((15 if not (isText text)) else check (textWords text)) _ g in
-      let (y, z) = h in
-      let (a, k) = else-both (15 if not (isText text)) (check (textWords text)) y in
+      let bad = 15 if not (isText rowWidth mostRecords text) in
+      let (x, h) = unrefused words (14 if ltb (length words) mostWords) _ g in
+      let (y, z) = unrefused (zeroed words) (bad else check (textWords text)) _ h in
+      let (a, k) = else-both bad (check (textWords text)) y in
       let count : n ≡ length (records text) = gives-inj (ap (λ (q : Reading). q .answer) z) in
       let held : out ≡ padded (length words) (textWords text) = ap (λ (q : Reading). q .words) z in
-      let size : length (textWords text) ≡ rowWidth * length (records text) = words-length (records text) (and-elim (leb (length (records text)) mostRecords) _ (if-not-true 14 _ a) .1) in
+      let good = and-elim (leb (length (records text)) mostRecords) _ (if-not-true 14 _ a) in
+      let size : length (textWords text) ≡ rowWidth * length (records text) = words-length (records text) (good .1) in
       let same : length (textWords text) ≡ rowWidth * n = omega arith in
       record {
         answer = sym (ap (λ (q : Reading). q .answer) g);
@@ -249,22 +257,31 @@ module _ (text words out : List ℕ) (long : mostWords ≤ length words) (r : Te
         words-read = rw held (take-at (textWords text) (replicate (length words - length (textWords text)) 0) (rowWidth * n) same);
       }
     where
-      unrefused : (a b : ℕ) (q : Reading) → reading (Records n) out ≡ readUnless a b words q → (a ≡ 0) × ((b ≡ 0) × (reading (Records n) out ≡ q))
-      unrefused (suc a) b q g = absurd (refused-gives (sym (ap (λ (q : Reading). q .answer) g)))
-      unrefused zero (suc b) q g = absurd (refused-gives (sym (ap (λ (q : Reading). q .answer) g)))
-      unrefused zero zero q g = (refl, (refl, g))
+      unrefused : (ws : List ℕ) (a : ℕ) (q : Reading) → reading (Records n) out ≡ (a leaves refusedWith ws otherwise q)
+          → (a ≡ 0) × (reading (Records n) out ≡ q)
+      unrefused ws (suc a) q g = absurd (refused-gives (sym (ap (λ (q : Reading). q .answer) g)))
+      unrefused ws zero q g = (refl, g)
 
-module _ (text words out : List ℕ) (zeros : words ≡ replicate mostWords 0) (r : TextRead) (e : reading r out ≡ readText text words) (bytes : List ℕ) where
+module _ (text words out : List ℕ) (zeros : words ≡ replicate mostWords 0) (r : TextRead) (e : reading r out ≡ readText text words) where
   answered : readText text words .answer ≡ readText text (replicate mostWords 0) .answer
   answered = ap (λ (w : List ℕ). readText text w .answer) zeros
 
-  pub prints-task : (n : ℕ) → Words text words out n → Reports (take (rowWidth * n) out) bytes → Prints text bytes
+  pub prints-task : (n : ℕ) → Words text words out n → {before after : List ℕ} {c : ℕ}
+      → AtFront (Reports (take (rowWidth * n) out)) before after c → AtFront (Prints text) before after c
   unfolding Prints
-  prints-task n w p =
-      subst (λ (a : Answer ℕ). PrintsFor a text bytes) (sym (w .answer) ∙ answered) (subst (λ (t : List ℕ). Reports t bytes) (w .words-read) p)
+  prints-task n w f =
+      record {
+        bytes = f .bytes;
+        means =
+            subst (λ (a : Answer ℕ). PrintsFor a text (f .bytes)) (sym (w .answer) ∙ answered)
+            (subst (λ (t : List ℕ). Reports t (f .bytes)) (w .words-read) (f .means));
+        laid = f .laid;
+      }
 
-  pub prints-refusal : (k : ℕ) → r ≡ Refused k → bytes ≡ header ++ line (word "refused") k → Prints text bytes
+  pub prints-refusal : (k : ℕ) → r ≡ Refused k → {before after : List ℕ} {c : ℕ}
+      → Laid (header ++ line (word "refused") k) before 0 after c → AtFront (Prints text) before after c
   unfolding Prints
-  prints-refusal k f p =
+  prints-refusal k f l =
+      let bytes = header ++ line (word "refused") k in
       let a : refused k ≡ readText text words .answer = ap (λ (q : TextRead). reading q out .answer) (sym f) ∙ ap (λ (q : Reading). q .answer) e in
-      subst (λ (a : Answer ℕ). PrintsFor a text bytes) (a ∙ answered) p
+      record { bytes = bytes; means = subst (λ (a : Answer ℕ). PrintsFor a text bytes) (a ∙ answered) refl; laid = l }

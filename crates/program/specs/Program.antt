@@ -6,10 +6,11 @@ use lib.ListN.{replicate}
 use Rattle.semantics.specs.Base.{Answer, refused, gives}
 use Rattle.semantics.specs.Task.{members}
 use Rattle.semantics.specs.Text.{textWords, readText}
-use Rattle.semantics.specs.Verdict.{Verdict, Failing, Lent, localRows, configurationRows, VerdictMeans}
+use Rattle.semantics.specs.Verdict.{Verdict, Failing, Slices, localRows, configurationRows, VerdictMeans}
+use Rattle.theory.proofs.Laid.{Laid}
 use Rattle.text.specs.Post.{mostWords}
 use Rattle.report.specs.File.{word, header, line, file}
-use Rattle.report.specs.Put.{mostFile}
+use Rattle.report.specs.Inner.Put.{mostFile}
 
 -- the words of the local table
 abbrev pub localWords : ℕ
@@ -27,7 +28,7 @@ abbrev pub C : List ℕ → ℕ
 C t = configurationRows t configurationWords
 
 -- the slices that the verdict is lent, all zero: the two tables, and the others just long enough
-unfoldable pub lentFor : List ℕ → Lent
+unfoldable pub lentFor : List ℕ → Slices
 lentFor t =
     record {
       localTable = replicate localWords 0;
@@ -42,7 +43,7 @@ lentFor t =
 -- the bytes are the file of the verdict's answer on the task
 pub record Reports (t bytes : List ℕ) : Type 0 where
   pub answer : Answer (Verdict Failing)
-  pub after : Lent
+  pub after : Slices
   pub means : VerdictMeans t (lentFor t) after answer
   pub lines : bytes ≡ file answer (members t) (after .plans) (after .ends) (after .picks)
 
@@ -54,6 +55,12 @@ PrintsFor (gives r) text bytes = Reports (textWords text) bytes
 -- the program: a text in, the bytes of its verdict file out
 unfoldable pub Prints : List ℕ → List ℕ → Type 0
 Prints text bytes = PrintsFor (readText text (replicate mostWords 0) .answer) text bytes
+
+-- r bytes, of which P holds, stand at the front of the slice; the rest is as it was
+pub record AtFront (P : List ℕ → Type 0) (before after : List ℕ) (r : ℕ) : Type 0 where
+  pub bytes : List ℕ
+  pub means : P bytes
+  pub laid : Laid bytes before 0 after r
 
 -- the bytes of the longest file: the verdict's line, eight plan lines, and lines for as many actions and picks as the slices hold
 abbrev pub mostBytes : ℕ

@@ -1,11 +1,11 @@
 // The verdict program on slices: the text of a task in, the verdict file out.
 ghost use mathlib.Core.Path.{_≡_};
 ghost use Prim.Native.Nat.{_≤_};
-ghost use lib.ListN.{length, take, replicate};
+ghost use lib.ListN.{length, replicate};
+ghost use Rattle.semantics.specs.Verdict.{lentOf};
 ghost use Rattle.semantics.specs.Task.{check};
-ghost use Rattle.verdict.specs.Value.{lentOf};
 ghost use Rattle.text.specs.Post.{mostWords};
-ghost use Rattle.program.specs.Program.{lentFor, Reports, Prints, mostBytes};
+ghost use Rattle.program.specs.Program.{lentFor, Reports, Prints, AtFront, mostBytes};
 use text::TextRead;
 
 // The words of the longest text.
@@ -37,7 +37,7 @@ fn judge(
     requires { ⌜ check (now t) ≡ 0 ⌝ }
     requires { ⌜ lentOf (now local) (now marks) (now confs) (now trail) (now plans) (now ends) (now picks) ≡ lentFor (now t) ⌝ }
     requires { ⌜ mostBytes ≤ length (now out) ⌝ }
-    ensures { λ r. ⌜ (r ≤ length (now (out .entry))) × Reports (now (t .entry)) (take r (now (out .exit))) ⌝ }
+    ensures { λ r. ⌜ AtFront (Reports (now (t .entry))) (now (out .entry)) (now (out .exit)) r ⌝ }
 {
     let n = task::members(t);
     let answer = verdict::verdict(t, local, marks, confs, trail, plans, ends, picks);
@@ -48,7 +48,7 @@ fn judge(
 fn of_task(t: &[u64], out: &mut [u8]) -> usize
     requires { ⌜ check (now t) ≡ 0 ⌝ }
     requires { ⌜ mostBytes ≤ length (now out) ⌝ }
-    ensures { λ r. ⌜ (r ≤ length (now (out .entry))) × Reports (now (t .entry)) (take r (now (out .exit))) ⌝ }
+    ensures { λ r. ⌜ AtFront (Reports (now (t .entry))) (now (out .entry)) (now (out .exit)) r ⌝ }
 {
     let n = task::members(t);
     let rows = n * (LOCAL_WORDS / n);
@@ -77,7 +77,7 @@ fn of_task(t: &[u64], out: &mut [u8]) -> usize
 fn of_text(text: &[u8], words: &mut [u64], out: &mut [u8]) -> usize
     requires { ⌜ now words ≡ replicate mostWords 0 ⌝ }
     requires { ⌜ mostBytes ≤ length (now out) ⌝ }
-    ensures { λ r. ⌜ (r ≤ length (now (out .entry))) × Prints (now (text .entry)) (take r (now (out .exit))) ⌝ }
+    ensures { λ r. ⌜ AtFront (Prints (now (text .entry))) (now (out .entry)) (now (out .exit)) r ⌝ }
 {
     match text::read(text, words) {
         TextRead::Records(n) => of_task(&words[..5 * n], out),
@@ -85,9 +85,10 @@ fn of_text(text: &[u8], words: &mut [u64], out: &mut [u8]) -> usize
     }
 }
 
-// The program, for every text: the file stands in the first bytes, and the answer is their number.
+// The program, for every text: the file stands in the first bytes, the answer is their number, and
+// the bytes after them are as they were.
 pub fn verdict_file(text: &[u8], out: &mut [u8; MOST_BYTES]) -> usize
-    ensures { λ r. ⌜ (r ≤ length (now (out .exit))) × Prints (now (text .entry)) (take r (now (out .exit))) ⌝ }
+    ensures { λ r. ⌜ AtFront (Prints (now (text .entry))) (now (out .entry)) (now (out .exit)) r ⌝ }
 {
     let mut words = [0u64; WORDS];
     of_text(text, &mut words, out)

@@ -2,49 +2,37 @@
 use mathlib.Core.Path.{_≡_, refl, sym, ap, ap₂, subst, _∙_}
 use mathlib.Core.Bool.{Bool, true, false, cond}
 use mathlib.Core.Logic.{⊎-elim}
-use mathlib.Core.List.{List, [], _∷_, _++_, map, flatten, append-assoc, append-nil}
+use mathlib.Core.List.{List, [], _∷_, _++_, map, flatten}
 use Prim.Native.Nat.{ℕ, zero, suc, _+_, _*_, _/_, _%_, _^_, _≤_, _<_}
 use native.Mathlib.Omega.{arith}
 use native.Mathlib.Numerals.{add-one}
 use native.Mathlib.Nat.{pow-suc}
 use lib.ListN.{length, getD, take, drop, set, length-append, drop-of-length-le}
-use lib.Seq.{slice, take-suc-set, drop-cons, getD-drop, length-slice, length-take-le}
+use lib.Seq.{slice, drop-cons, getD-drop, length-slice, length-take-le}
 use lib.Dec.{ltb}
 use borrow.Author.Tests.{ltb-false, lt-ltb, le-ltb}
-use Rattle.semantics.specs.Base.{range, Answer, refused, gives}
+use Rattle.semantics.specs.Base.{numbersFrom, Answer, refused, gives}
 use Rattle.semantics.specs.Text.{comma}
 use Rattle.semantics.specs.Run.{beginning, planOf}
 use Rattle.semantics.specs.Verdict.{Verdict, unsolvable, notRobust, robust, Failing, conflictPicks}
+use Rattle.theory.proofs.Laid.{Laid, laid-none, laid-one, laid-append}
 use Rattle.theory.proofs.Lists.{lt-or-ge}
-use Rattle.text.specs.Written.{digitsIn, digits}
+use Rattle.text.specs.Inner.Written.{digitsIn, digits}
 use Rattle.report.specs.File.{word, lineEnd, line, lines, planLines, plansLines, conflictLines}
-use Rattle.report.specs.Put.{mostLine, Room, Put, Inside, Holds, conflictOf}
+use Rattle.report.specs.Inner.Put.{mostLine, Room, Inside, Holds, conflictOf}
 
 -- ---- one after another
-
-pub put-none : (out : List ℕ) (at : ℕ) → Put out at [] out at
-put-none out at = record { count = omega arith; held = sym (append-nil (take at out)) }
-
-pub put-then : {before mid after x y : List ℕ} {at b r : ℕ} → Put before at x mid b → Put mid b y after r → Put before at (x ++ y) after r
-put-then {before} {mid} {after} {x} {y} {at} {b} {r} p q =
-    record {
-      count = omega (arith, length-append x y);
-      held = q .held ∙ ap (λ (l : List ℕ). l ++ y) (p .held) ∙ append-assoc (take at before) x y;
-    }
 
 -- room for two is room for the first, and, that being put, for the second
 pub room-first : {out : List ℕ} {at : ℕ} (x y : List ℕ) → Room out at (x ++ y) → Room out at x
 room-first x y h = record { fits = omega (arith, length-append x y) }
 
-pub room-then : {before mid x y : List ℕ} {at b : ℕ} → Room before at (x ++ y) → Put before at x mid b → length mid ≡ length before → Room mid b y
+pub room-then : {before mid x y : List ℕ} {at b : ℕ}
+    → Room before at (x ++ y) → Laid x before at mid b → length mid ≡ length before → Room mid b y
 room-then {x = x} {y = y} h p e = record { fits = omega (arith, length-append x y) }
 
-pub put-byte : {out : List ℕ} {at : ℕ} (b : ℕ) → Room out at (b ∷ []) → Put out at (b ∷ []) (set out at b) (at + 1)
-put-byte {out} {at} b h =
-    record {
-      count = refl;
-      held = rw (add-one, take-suc-set out at b (omega arith));
-    }
+pub put-byte : {out : List ℕ} {at : ℕ} (b : ℕ) → Room out at (b ∷ []) → Laid (b ∷ []) out at (set out at b) (at + 1)
+put-byte {out} {at} b h = laid-one b out at (omega arith)
 
 -- ---- digits
 
@@ -113,7 +101,8 @@ pub record Stage (f : ℕ → List ℕ) (xs before : List ℕ) (at : ℕ) (out :
   pub inside : i ≤ length xs
   pub kept : length out ≡ length before
   pub room : Room out next (spread f (drop i xs))
-  pub whole : (after : List ℕ) (r : ℕ) → Put out next (spread f (drop i xs)) after r → Put before at (spread f xs) after r
+  pub whole : (after : List ℕ) (r : ℕ)
+      → Laid (spread f (drop i xs)) out next after r → Laid (spread f xs) before at after r
 
 module _ {f : ℕ → List ℕ} {xs before : List ℕ} {at : ℕ} where
   pub stage-begin : Room before at (spread f xs) → Stage f xs before at before at 0
@@ -127,7 +116,8 @@ module _ {f : ℕ → List ℕ} {xs before : List ℕ} {at : ℕ} where
         record { fits = omega (arith, s .room, length-append (f v) (spread f (drop (i + 1) xs))) }
 
     pub stage-onward : (v : ℕ) → v ≡ getD xs i 0 → i < length xs
-        → (mid : List ℕ) (b : ℕ) → Put out next (f v) mid b → length mid ≡ length out → Stage f xs before at mid b (i + 1)
+        → (mid : List ℕ) (b : ℕ) → Laid (f v) out next mid b → length mid ≡ length out
+        → Stage f xs before at mid b (i + 1)
     stage-onward v e h mid b p k =
         let g : spread f (drop i xs) ≡ f v ++ spread f (drop (i + 1) xs) =
         spread-at f xs i h ∙ ap (λ (w : ℕ). f w ++ spread f (drop (i + 1) xs)) (sym e) in
@@ -135,13 +125,16 @@ module _ {f : ℕ → List ℕ} {xs before : List ℕ} {at : ℕ} where
           inside = omega arith;
           kept = k ∙ s .kept;
           room = room-then (subst (λ (l : List ℕ). Room out next l) g (s .room)) p k;
-          whole = λ after r q. s .whole after r (subst (λ (l : List ℕ). Put out next l after r) (sym g) (put-then p q));
+          whole = λ after r q.
+              s .whole after r (subst (λ (l : List ℕ). Laid l out next after r) (sym g) (laid-append p q));
         }
 
-    pub stage-end : length xs ≤ i → Put before at (spread f xs) out next
+    pub stage-end : length xs ≤ i → Laid (spread f xs) before at out next
     unfolding flatten
     stage-end h =
-        s .whole out next (subst (λ (l : List ℕ). Put out next (spread f l) out next) (sym (drop-of-length-le xs h)) (put-none out next))
+        s .whole out next
+        (subst (λ (l : List ℕ). Laid (spread f l) out next out next) (sym (drop-of-length-le xs h))
+        (laid-none out next (omega (arith, s .room))))
 
 -- the bytes of a list, one by one
 pub spread-bytes : (xs : List ℕ) → spread (λ x. x ∷ []) xs ≡ xs
@@ -177,7 +170,7 @@ lines-short w (x ∷ xs) k h =
 
 module _ (n : ℕ) (plans ends : List ℕ) (p : Inside n plans ends) (few : n ≤ 2 ^ 64) (h : Small plans) where
   plan-short : (j : ℕ) → j < n → length (planLines plans ends j) + mostLine * beginning ends j ≤ mostLine * (1 + getD ends j 0)
-  unfolding word range
+  unfolding word numbersFrom
   plan-short j l =
       omega (
         arith,
@@ -188,21 +181,21 @@ module _ (n : ℕ) (plans ends : List ℕ) (p : Inside n plans ends) (few : n �
         p .ordered j l,
       )
 
-  plans-short : (k c : ℕ) → k + c ≤ n → length (spread (planLines plans ends) (range k c)) + mostLine * beginning ends k ≤ mostLine * (c + beginning ends (k + c))
-  unfolding range flatten
+  plans-short : (k c : ℕ) → k + c ≤ n → length (spread (planLines plans ends) (numbersFrom k c)) + mostLine * beginning ends k ≤ mostLine * (c + beginning ends (k + c))
+  unfolding numbersFrom flatten
   plans-short k zero g = let z : k ≡ k + 0 = omega arith in omega (arith, ap (beginning ends) z)
   plans-short k (suc c) g =
       let z : suc k + c ≡ k + suc c = omega arith in
       omega (
         arith,
         ap (beginning ends) z,
-        length-append (planLines plans ends k) (spread (planLines plans ends) (range (suc k) c)),
+        length-append (planLines plans ends k) (spread (planLines plans ends) (numbersFrom (suc k) c)),
         plan-short k (omega arith),
         plans-short (suc k) c (omega arith),
       )
 
   pub conflict-short : (picks : List ℕ) → Small picks → length (conflictLines n plans ends picks) ≤ mostLine * (n + length plans + length picks)
-  unfolding plansLines word range
+  unfolding plansLines word numbersFrom
   conflict-short picks s =
       let z : 0 + n ≡ n = omega arith in
       omega (

@@ -1,19 +1,22 @@
-// The verdict file: the lines of an answer, put into a lent slice of bytes. Each function puts its bytes from the place `at` on and answers the place after them.
+// The verdict file: the lines of an answer, put into a lent slice of bytes. Each function lays its
+// bytes into the slice from the place `at` on, leaves the rest as it was, and answers the place
+// after them.
 ghost use mathlib.Core.Path.{_≡_};
 ghost use mathlib.Core.List.{[], _∷_, _++_};
 ghost use Prim.Native.Nat.{_+_, _≤_, _<_};
 ghost use lib.ListN.{length, getD, take};
 ghost use lib.Seq.{slice};
 ghost use Rattle.semantics.specs.Run.{Fault};
-ghost use Rattle.text.specs.Written.{digits};
+ghost use Rattle.theory.proofs.Laid.{Laid};
+ghost use Rattle.text.specs.Inner.Written.{digits};
 ghost use Rattle.verdict.specs.Value.{failing, answerOf};
 ghost use Rattle.report.specs.File.{word, header, line, lines, planLines, plansLines, conflictLines, body, file};
-ghost use Rattle.report.specs.Put.{mostLine, mostFile, Room, Put, Inside, Holds, conflictOf};
+ghost use Rattle.report.specs.Inner.Put.{mostLine, mostFile, Room, Inside, Holds, conflictOf};
 use verdict::VerdictAnswer;
 
 fn put_byte(out: &mut [u8], at: usize, byte: u8) -> usize
     requires { ⌜ Room (now out) at (byte ∷ []) ⌝ }
-    ensures { λ r. ⌜ Put (now (out .entry)) at (byte ∷ []) (now (out .exit)) r ⌝ }
+    ensures { λ r. ⌜ Laid (byte ∷ []) (now (out .entry)) at (now (out .exit)) r ⌝ }
 {
     out[at] = byte;
     at + 1
@@ -21,7 +24,7 @@ fn put_byte(out: &mut [u8], at: usize, byte: u8) -> usize
 
 fn put(out: &mut [u8], at: usize, bytes: &[u8]) -> usize
     requires { ⌜ Room (now out) at (now bytes) ⌝ }
-    ensures { λ r. ⌜ Put (now (out .entry)) at (now (bytes .entry)) (now (out .exit)) r ⌝ }
+    ensures { λ r. ⌜ Laid (now (bytes .entry)) (now (out .entry)) at (now (out .exit)) r ⌝ }
 {
     let mut next = at;
     let mut i = 0;
@@ -35,7 +38,7 @@ fn put(out: &mut [u8], at: usize, bytes: &[u8]) -> usize
 // In base ten.
 fn put_number(out: &mut [u8], at: usize, v: u64) -> usize
     requires { ⌜ Room (now out) at (digits v) ⌝ }
-    ensures { λ r. ⌜ Put (now (out .entry)) at (digits v) (now (out .exit)) r ⌝ }
+    ensures { λ r. ⌜ Laid (digits v) (now (out .entry)) at (now (out .exit)) r ⌝ }
 {
     if v < 10 {
         return put_byte(out, at, b'0' + v as u8);
@@ -46,7 +49,7 @@ fn put_number(out: &mut [u8], at: usize, v: u64) -> usize
 
 fn put_line(out: &mut [u8], at: usize, word: &[u8], v: u64) -> usize
     requires { ⌜ Room (now out) at (line (now word) v) ⌝ }
-    ensures { λ r. ⌜ Put (now (out .entry)) at (line (now (word .entry)) v) (now (out .exit)) r ⌝ }
+    ensures { λ r. ⌜ Laid (line (now (word .entry)) v) (now (out .entry)) at (now (out .exit)) r ⌝ }
 {
     let comma = put(out, at, word);
     let number = put_byte(out, comma, b',');
@@ -70,7 +73,7 @@ fn wider(x: u8) -> u64
 // A line for each action of a plan.
 fn put_actions(out: &mut [u8], at: usize, word: &[u8], plan: &[u16]) -> usize
     requires { ⌜ Room (now out) at (lines (now word) (now plan)) ⌝ }
-    ensures { λ r. ⌜ Put (now (out .entry)) at (lines (now (word .entry)) (now (plan .entry))) (now (out .exit)) r ⌝ }
+    ensures { λ r. ⌜ Laid (lines (now (word .entry)) (now (plan .entry))) (now (out .entry)) at (now (out .exit)) r ⌝ }
 {
     let mut next = at;
     let mut i = 0;
@@ -84,7 +87,7 @@ fn put_actions(out: &mut [u8], at: usize, word: &[u8], plan: &[u16]) -> usize
 // A line for each pick.
 fn put_picks(out: &mut [u8], at: usize, word: &[u8], picks: &[u8]) -> usize
     requires { ⌜ Room (now out) at (lines (now word) (now picks)) ⌝ }
-    ensures { λ r. ⌜ Put (now (out .entry)) at (lines (now (word .entry)) (now (picks .entry))) (now (out .exit)) r ⌝ }
+    ensures { λ r. ⌜ Laid (lines (now (word .entry)) (now (picks .entry))) (now (out .entry)) at (now (out .exit)) r ⌝ }
 {
     let mut next = at;
     let mut i = 0;
@@ -100,7 +103,8 @@ fn put_part(out: &mut [u8], at: usize, plans: &[u16], from: usize, to: usize) ->
     requires { ⌜ from ≤ to ⌝ }
     requires { ⌜ to ≤ length (now plans) ⌝ }
     requires { ⌜ Room (now out) at (lines (word "action") (slice from to (now plans))) ⌝ }
-    ensures { λ r. ⌜ Put (now (out .entry)) at (lines (word "action") (slice from to (now (plans .entry)))) (now (out .exit)) r ⌝ }
+    ensures { λ r. ⌜ Laid (lines (word "action") (slice from to (now (plans .entry))))
+        (now (out .entry)) at (now (out .exit)) r ⌝ }
 {
     put_actions(out, at, b"action", &plans[from..to])
 }
@@ -117,17 +121,19 @@ fn put_plan(out: &mut [u8], at: usize, n: usize, plans: &[u16], ends: &[u64], i:
     requires { ⌜ i < n ⌝ }
     requires { ⌜ Inside n (now plans) (now ends) ⌝ }
     requires { ⌜ Room (now out) at (planLines (now plans) (now ends) i) ⌝ }
-    ensures { λ r. ⌜ Put (now (out .entry)) at (planLines (now (plans .entry)) (now (ends .entry)) i) (now (out .exit)) r ⌝ }
+    ensures { λ r. ⌜ Laid (planLines (now (plans .entry)) (now (ends .entry)) i)
+        (now (out .entry)) at (now (out .exit)) r ⌝ }
 {
     let next = put_line(out, at, b"plan", i as u64);
-    let from = plans::beginning(ends, i) as usize;
+    let from = run_plans::beginning(ends, i) as usize;
     put_part(out, next, plans, from, end(ends, i))
 }
 
 fn put_plans(out: &mut [u8], at: usize, n: usize, plans: &[u16], ends: &[u64]) -> usize
     requires { ⌜ Inside n (now plans) (now ends) ⌝ }
     requires { ⌜ Room (now out) at (plansLines n (now plans) (now ends)) ⌝ }
-    ensures { λ r. ⌜ Put (now (out .entry)) at (plansLines n (now (plans .entry)) (now (ends .entry))) (now (out .exit)) r ⌝ }
+    ensures { λ r. ⌜ Laid (plansLines n (now (plans .entry)) (now (ends .entry)))
+        (now (out .entry)) at (now (out .exit)) r ⌝ }
 {
     let mut next = at;
     let mut i = 0;
@@ -148,7 +154,8 @@ fn put_conflict(
 ) -> usize
     requires { ⌜ Inside n (now plans) (now ends) ⌝ }
     requires { ⌜ Room (now out) at (conflictLines n (now plans) (now ends) (now picks)) ⌝ }
-    ensures { λ r. ⌜ Put (now (out .entry)) at (conflictLines n (now (plans .entry)) (now (ends .entry)) (now (picks .entry))) (now (out .exit)) r ⌝ }
+    ensures { λ r. ⌜ Laid (conflictLines n (now (plans .entry)) (now (ends .entry)) (now (picks .entry)))
+        (now (out .entry)) at (now (out .exit)) r ⌝ }
 {
     let next = put_plans(out, at, n, plans, ends);
     put_picks(out, next, b"pick", picks)
@@ -157,28 +164,28 @@ fn put_conflict(
 // The line of column names.
 fn put_header(out: &mut [u8]) -> usize
     requires { ⌜ Room (now out) 0 header ⌝ }
-    ensures { λ r. ⌜ Put (now (out .entry)) 0 header (now (out .exit)) r ⌝ }
+    ensures { λ r. ⌜ Laid header (now (out .entry)) 0 (now (out .exit)) r ⌝ }
 {
     put(out, 0, b"verdict,number\r\n")
 }
 
 fn put_refused(out: &mut [u8], at: usize, refusal: u64) -> usize
     requires { ⌜ at + mostLine ≤ length (now out) ⌝ }
-    ensures { λ r. ⌜ Put (now (out .entry)) at (line (word "refused") refusal) (now (out .exit)) r ⌝ }
+    ensures { λ r. ⌜ Laid (line (word "refused") refusal) (now (out .entry)) at (now (out .exit)) r ⌝ }
 {
     put_line(out, at, b"refused", refusal)
 }
 
 fn put_unsolvable(out: &mut [u8], at: usize, member: usize) -> usize
     requires { ⌜ at + mostLine ≤ length (now out) ⌝ }
-    ensures { λ r. ⌜ Put (now (out .entry)) at (line (word "unsolvable") member) (now (out .exit)) r ⌝ }
+    ensures { λ r. ⌜ Laid (line (word "unsolvable") member) (now (out .entry)) at (now (out .exit)) r ⌝ }
 {
     put_line(out, at, b"unsolvable", member as u64)
 }
 
 fn put_robust(out: &mut [u8], at: usize, count: usize) -> usize
     requires { ⌜ at + mostLine ≤ length (now out) ⌝ }
-    ensures { λ r. ⌜ Put (now (out .entry)) at (line (word "robust") count) (now (out .exit)) r ⌝ }
+    ensures { λ r. ⌜ Laid (line (word "robust") count) (now (out .entry)) at (now (out .exit)) r ⌝ }
 {
     put_line(out, at, b"robust", count as u64)
 }
@@ -199,7 +206,9 @@ fn put_fault(
     requires { ⌜ count ≤ length (now picks) ⌝ }
     requires { ⌜ length (now name) ≤ 10 ⌝ }
     requires { ⌜ Room (now out) (at + mostLine) (conflictLines n (now plans) (now ends) (take count (now picks))) ⌝ }
-    ensures { λ r. ⌜ Put (now (out .entry)) at (line (now (name .entry)) v ++ conflictLines n (now (plans .entry)) (now (ends .entry)) (take count (now (picks .entry)))) (now (out .exit)) r ⌝ }
+    ensures { λ r. ⌜ Laid
+        (line (now (name .entry)) v ++ conflictLines n (now (plans .entry)) (now (ends .entry)) (take count (now (picks .entry))))
+        (now (out .entry)) at (now (out .exit)) r ⌝ }
 {
     let next = put_line(out, at, name, v);
     put_conflict(out, next, n, plans, ends, &picks[..count])
@@ -216,7 +225,9 @@ fn put_collision(
 ) -> usize
     requires { ⌜ Holds (failing Fault.collision k) n (now plans) (now ends) (now picks) ⌝ }
     requires { ⌜ Room (now out) (at + mostLine) (conflictOf (failing Fault.collision k) n (now plans) (now ends) (now picks)) ⌝ }
-    ensures { λ r. ⌜ Put (now (out .entry)) at (body (failing Fault.collision k) n (now (plans .entry)) (now (ends .entry)) (now (picks .entry))) (now (out .exit)) r ⌝ }
+    ensures { λ r. ⌜ Laid
+        (body (failing Fault.collision k) n (now (plans .entry)) (now (ends .entry)) (now (picks .entry)))
+        (now (out .entry)) at (now (out .exit)) r ⌝ }
 {
     put_fault(
         out,
@@ -242,7 +253,9 @@ fn put_deadlock(
 ) -> usize
     requires { ⌜ Holds (failing Fault.deadlock k) n (now plans) (now ends) (now picks) ⌝ }
     requires { ⌜ Room (now out) (at + mostLine) (conflictOf (failing Fault.deadlock k) n (now plans) (now ends) (now picks)) ⌝ }
-    ensures { λ r. ⌜ Put (now (out .entry)) at (body (failing Fault.deadlock k) n (now (plans .entry)) (now (ends .entry)) (now (picks .entry))) (now (out .exit)) r ⌝ }
+    ensures { λ r. ⌜ Laid
+        (body (failing Fault.deadlock k) n (now (plans .entry)) (now (ends .entry)) (now (picks .entry)))
+        (now (out .entry)) at (now (out .exit)) r ⌝ }
 {
     put_fault(out, at, b"deadlock", k as u64, n, plans, ends, picks, k)
 }
@@ -259,7 +272,9 @@ fn put_missed(
 ) -> usize
     requires { ⌜ Holds (failing (Fault.missed member) k) n (now plans) (now ends) (now picks) ⌝ }
     requires { ⌜ Room (now out) (at + mostLine) (conflictOf (failing (Fault.missed member) k) n (now plans) (now ends) (now picks)) ⌝ }
-    ensures { λ r. ⌜ Put (now (out .entry)) at (body (failing (Fault.missed member) k) n (now (plans .entry)) (now (ends .entry)) (now (picks .entry))) (now (out .exit)) r ⌝ }
+    ensures { λ r. ⌜ Laid
+        (body (failing (Fault.missed member) k) n (now (plans .entry)) (now (ends .entry)) (now (picks .entry)))
+        (now (out .entry)) at (now (out .exit)) r ⌝ }
 {
     put_fault(out, at, b"missed", member as u64, n, plans, ends, picks, k)
 }
@@ -276,7 +291,8 @@ fn put_body(
 ) -> usize
     requires { ⌜ Holds (answerOf answer) n (now plans) (now ends) (now picks) ⌝ }
     requires { ⌜ Room (now out) (at + mostLine) (conflictOf (answerOf answer) n (now plans) (now ends) (now picks)) ⌝ }
-    ensures { λ r. ⌜ Put (now (out .entry)) at (body (answerOf answer) n (now (plans .entry)) (now (ends .entry)) (now (picks .entry))) (now (out .exit)) r ⌝ }
+    ensures { λ r. ⌜ Laid (body (answerOf answer) n (now (plans .entry)) (now (ends .entry)) (now (picks .entry)))
+        (now (out .entry)) at (now (out .exit)) r ⌝ }
 {
     match answer {
         VerdictAnswer::Refused(k) => put_refused(out, at, k),
@@ -288,16 +304,17 @@ fn put_body(
     }
 }
 
-// The file of a refusal, from the slice's front on.
+// The file of a refusal, at the slice's front; the rest is as it was.
 pub fn put_refusal(out: &mut [u8], refusal: u64) -> usize
     requires { ⌜ mostFile 1 ≤ length (now out) ⌝ }
-    ensures { λ r. ⌜ Put (now (out .entry)) 0 (header ++ line (word "refused") refusal) (now (out .exit)) r ⌝ }
+    ensures { λ r. ⌜ Laid (header ++ line (word "refused") refusal) (now (out .entry)) 0 (now (out .exit)) r ⌝ }
 {
-    let next = put_header(out);
-    put_refused(out, next, refusal)
+    let at = put_header(out);
+    put_refused(out, at, refusal)
 }
 
-// The file of a verdict's answer on a task of n members, from the slice's front on.
+// The file of a verdict's answer on a task of n members, at the slice's front; the rest is as it
+// was.
 pub fn put_file(
     out: &mut [u8],
     answer: VerdictAnswer,
@@ -308,7 +325,8 @@ pub fn put_file(
 ) -> usize
     requires { ⌜ Holds (answerOf answer) n (now plans) (now ends) (now picks) ⌝ }
     requires { ⌜ mostFile (1 + n + length (now plans) + length (now picks)) ≤ length (now out) ⌝ }
-    ensures { λ r. ⌜ Put (now (out .entry)) 0 (file (answerOf answer) n (now (plans .entry)) (now (ends .entry)) (now (picks .entry))) (now (out .exit)) r ⌝ }
+    ensures { λ r. ⌜ Laid (file (answerOf answer) n (now (plans .entry)) (now (ends .entry)) (now (picks .entry)))
+        (now (out .entry)) 0 (now (out .exit)) r ⌝ }
 {
     let next = put_header(out);
     put_body(out, next, answer, n, plans, ends, picks)

@@ -5,30 +5,30 @@ use Prim.Native.Nat.{ℕ, zero, suc, _-_}
 use lib.ListN.{length, replicate}
 
 -- the numbers k, k + 1, .., c of them
-unfoldable pub range : ℕ → ℕ → List ℕ
-range k zero = []
-range k (suc c) = k ∷ range (suc k) c
+unfoldable pub numbersFrom : ℕ → ℕ → List ℕ
+numbersFrom k zero = []
+numbersFrom k (suc c) = k ∷ numbersFrom (suc k) c
 
 -- the numbers below n
 abbrev pub upTo : ℕ → List ℕ
-upTo n = range 0 n
+upTo n = numbersFrom 0 n
 
 module _ {A : Type 0} where
-  unfoldable pub any : (A → Bool) → List A → Bool
-  any p [] = false
-  any p (x ∷ xs) = p x || any p xs
+  unfoldable pub anyOf : (A → Bool) → List A → Bool
+  anyOf p [] = false
+  anyOf p (x ∷ xs) = p x || anyOf p xs
 
-  unfoldable pub all : (A → Bool) → List A → Bool
-  all p [] = true
-  all p (x ∷ xs) = p x && all p xs
+  unfoldable pub allOf : (A → Bool) → List A → Bool
+  allOf p [] = true
+  allOf p (x ∷ xs) = p x && allOf p xs
 
   -- f x for each x of the list that passes the test
   unfoldable pub collect : {B : Type 0} → (A → Bool) → (A → B) → List A → List B
   collect p f [] = []
   collect p f (x ∷ xs) = cond (p x) (f x ∷ collect p f xs) (collect p f xs)
 
-  unfoldable pub filter : (A → Bool) → List A → List A
-  filter p xs = collect p (λ x. x) xs
+  unfoldable pub keep : (A → Bool) → List A → List A
+  keep p xs = collect p (λ x. x) xs
 
 -- ---- refusals: a number, 0 where there is none
 
@@ -54,10 +54,16 @@ pub data Answer (A : Type 0) : Type 0 where
   refused : ℕ → Answer A
   gives : A → Answer A
 
--- the answer, unless there is a refusal
+-- refused with this number, where there is one, and what that leaves: the answer, and what the slices then hold;
+-- otherwise the rest
+infixr 26 _leaves_otherwise_
+abbrev pub _leaves_otherwise_ {κ} : {R : Type κ} → ℕ → (ℕ → R) → R → R
+zero leaves left otherwise rest = rest
+suc r leaves left otherwise rest = left (suc r)
+
+-- the answer, unless there is a refusal; no slice is lent
 abbrev pub unless : {A : Type 0} → ℕ → Answer A → Answer A
-unless zero a = a
-unless (suc r) a = refused (suc r)
+unless r a = r leaves refused otherwise a
 
 -- ---- lent slices
 

@@ -1,23 +1,49 @@
--- The three demands of the settlement runner's owner, as types. Proved in proofs/.
+-- The three demands of the settlement runner's owner. Each is proved: 1 as the contracts of the public functions, 2 and 3 in `theory`.
 --
--- Demand 1, each operation total, is the contract of each public function: its answer and every lent slice afterwards equal to
--- `check`, `step`, `soloReplay`, `soloSearch`, `jointReplay`, `pickOn`, `VerdictMeans`, `readText`, for all inputs.
+-- Demand 1, total. Every input within the written limits gets its defined answer, and the work ends; every other input gets the refusal
+-- that stands first in the written order; afterwards every lent slice holds what is written. A public function has no `requires`, and its
+-- contract equates its answer and its lent slices at exit, for all inputs, with a meaning:
+--
+--   task check              `check`              task::check
+--   step                    `step`               step::step
+--   solo replay             `soloReplay`         solo_replay::solo_replay
+--   solo search             `soloSearch`         solo_search::solo_search
+--   joint replay            `jointReplay`        run_replay::joint_replay
+--   pick on a run           `pickOn`             run_replay::pick; the run lent: run_dispatch::pick, run_dispatch::once
+--   picks on a run          `playOn`             run_dispatch::play
+--   the dispatcher's start  `startOf`            run_dispatch::start
+--   verdict                 `VerdictMeans`       verdict::verdict; with `Demand3Answer`
+--   text reader             `readText`           text::read
+--   verdict program         `Prints` of program  program::verdict_file
+--
+-- The C interface (capi) gives these meanings as numbers.
+--
+-- Demand 2, the model. Step, solo replay, joint replay, solo search and a pick on a run agree with the execution model of social laws in
+-- MA-STRIPS (Model), yes where it says yes and no where it says no: `Demand2`.
+--
+-- Demand 3, robustness. For an accepted task that fits the slices and in which each member has a solving plan: over all choices of solving
+-- plans and all lists of picks, the finished runs are just the successes exactly when the verdict is robust; and the verdict is robust
+-- exactly when the task's setting is robust in the model. A verdict of not robust carries plans and picks whose joint replay ends as the
+-- verdict says: `Demand3`, and of the verdict's own answer `Demand3Answer`. What the verdict's search lists, and when it refuses:
+-- `VerdictSearch`.
 use mathlib.Core.Path.{_≡_}
-use mathlib.Core.Bool.{Bool, true, not}
-use mathlib.Core.Logic.{_↔_}
-use mathlib.Core.List.{List, [], _∷_, _++_, List·Memᴰ}
-use Prim.Native.Nat.{ℕ, _<_}
-use lib.ListN.{length, getD, take, drop}
+use mathlib.Core.Bool.{Bool, true, false, not}
+use mathlib.Core.Logic.{_↔_, _⊎_}
+use mathlib.Core.List.{List, [], _∷_, _++_, map, flatten, List·Memᴰ}
+use Prim.Native.Nat.{ℕ, _+_, _≤_, _<_}
+use lib.ListN.{length, getD, set, take, drop}
+use lib.Dec.{eqb}
 use Rattle.semantics.specs.Base.{Answer, refused, gives}
-use Rattle.semantics.specs.Mask.{has}
+use Rattle.semantics.specs.Mask.{has, below}
 use Rattle.semantics.specs.Task as Task
-use Rattle.semantics.specs.Task.{members, actions, owner}
+use Rattle.semantics.specs.Task.{check, facts, members, actions, owner}
 use Rattle.semantics.specs.System.{System, Waits, system, waits, Choice}
+use Rattle.semantics.specs.Listing.{addAll}
 use Rattle.semantics.specs.Step.{Decision, stepRefusal, step}
-use Rattle.semantics.specs.Solo.{Solo, soloRefusal, soloReplay, searchRefusal, soloSearch}
-use Rattle.semantics.specs.Run.{Fault, Outcome, success, failure, still-open, isSuccess, isOpen, start, outcome, play, planOf, plansOf, plansRefusal, jointReplay}
-use Rattle.semantics.specs.Verdict.{Room, Verdict, notRobust, robust, Finding, Failing, verdict, Lent, Conflict, listedFor}
-use Rattle.semantics.specs.Model.{FactSet, _⊆_, Setting, apply, Executes, Solution, World, Collides, Execution, Deadlock, Success, Missed, GoesOn}
+use Rattle.semantics.specs.Solo.{Solo, soloRefusal, soloReplay, soloNext, searchRefusal, soloSearch}
+use Rattle.semantics.specs.Run.{Run, mostMembers, Fault, Outcome, success, failure, still-open, isSuccess, isOpen, Replay, rest, start, outcome, play, beginning, planOf, plansOf, plansRefusal, jointReplay, passOver, startOf, pickOn, playOn}
+use Rattle.semantics.specs.Verdict.{Room, localRows, configurationRows, tooShort, Verdict, unsolvable, notRobust, robust, Finding, Failing, sameRow, localCopy, sharedCopy, startRow, moved, moves, faults, verdict, Slices, room, Conflict, liveFor, listedIn, listedFor}
+use Rattle.semantics.specs.Model.{FactSet, _⊆_, Setting, apply, Executes, Solution, World, Acts, Collides, Waiting, Execution, Deadlock, Success, Missed, GoesOn, begin, Robust}
 
 -- ---- demand 2: the operations agree with the execution model of social laws in MA-STRIPS
 
@@ -61,7 +87,7 @@ pub record SoloReplayAgrees (t : List ℕ) (i : ℕ) (plan : List ℕ) : Type 0 
 
 -- the world at the start, with these plans
 abbrev pub worldOf : (t : List ℕ) → List (List ℕ) → World (setting t)
-worldOf t plans = record { state = setting t .init; left = λ j. getD plans j [] }
+worldOf t plans = begin (setting t) plans
 
 -- what an outcome says of the world that the picks led to
 abbrev pub OutcomeOf : (t : List ℕ) → World (setting t) → Outcome → Type 0
@@ -79,12 +105,62 @@ pub data Ends (t : List ℕ) (plans : List (List ℕ)) : List ℕ → Outcome �
       → Execution (setting t) (worldOf t plans) picks w → Collides (setting t) w i → w .state ≡ factsOf g
       → Ends t plans (picks ++ (i ∷ [])) (failure Fault.collision) g (length picks)
 
-pub record JointReplayAgrees (t plans ends : List ℕ) : Type 0 where
-  -- plans that are not refused are solutions, one for each agent
+-- the task check passes, the ends fit the plan slice, and each plan is an individual solution
+pub record SolvingPlans (t plans ends : List ℕ) : Type 0 where
+  pub accepted : check t ≡ 0
+  pub many : length ends ≡ members t
+  pub rising : (j : ℕ) → j < members t → beginning ends j ≤ getD ends j 0
+  pub whole : beginning ends (members t) ≡ length plans
   pub solutions : (j : ℕ) → j < members t → Solution (setting t) j (planOf plans ends j)
-  pub replays : (picks : List ℕ) (o : Outcome) (g k : ℕ)
+
+pub record JointReplayAgrees (t plans ends : List ℕ) : Type 0 where
+  -- the plans are accepted exactly when they are solving plans; then some answer is given, and only then
+  pub accepts : (plansRefusal t plans ends ≡ 0) ↔ SolvingPlans t plans ends
+  pub begins : plansRefusal t plans ends ≡ 0 → (a : Replay ℕ) × (jointReplay t plans ends [] ≡ gives a)
+  pub answers : (picks : List ℕ) (a : Replay ℕ) → jointReplay t plans ends picks ≡ gives a → plansRefusal t plans ends ≡ 0
+  pub replays : plansRefusal t plans ends ≡ 0 → (picks : List ℕ) (o : Outcome) (g k : ℕ)
       → (jointReplay t plans ends picks ≡ gives (record { outcome = o; shared = g; picked = k }))
       ↔ Ends t (plansOf (members t) plans ends) picks o g k
+
+-- ---- a pick on a run
+
+-- the plans are accepted, the shared copy has no bit at or above F, and no place is past its plan's end
+pub record RunFits (t plans ends : List ℕ) (r : Run ℕ) : Type 0 where
+  pub plans-fit : plansRefusal t plans ends ≡ 0
+  pub shared-fits : below (facts t) (r .shared) ≡ true
+  pub places-fit : (j : ℕ) → j < members t → getD (r .places) j 0 ≤ length (planOf plans ends j)
+
+-- the world that a run stands in
+abbrev pub worldAt : (t : List ℕ) → List (List ℕ) → Run ℕ → World (setting t)
+worldAt t plans r = record { state = factsOf (r .shared); left = λ j. rest plans r j }
+
+abbrev pub worldIn : (t plans ends : List ℕ) → Run ℕ → World (setting t)
+worldIn t plans bounds r = worldAt t (plansOf (members t) plans bounds) r
+
+-- the run with the shared copy g and member i's place moved by one
+abbrev pub stepped : Run ℕ → ℕ → ℕ → Run ℕ
+stepped r i g = record { shared = g; places = set (r .places) i (getD (r .places) i 0 + 1); collided = false }
+
+-- the run as it was, but closed
+abbrev pub closed : Run ℕ → Run ℕ
+closed r = record { shared = r .shared; places = r .places; collided = true }
+
+-- agent i waits or has ended
+abbrev pub Stays : (Π : Setting) → World Π → ℕ → Type 0
+Stays Π w i = Waiting Π w i ⊎ (w .left i ≡ [])
+
+-- Each answer of a pick, both ways: the run moves by just the one step that the scheduler's choice executes; a collision closes it and
+-- changes nothing else; 8 for no agent; 13 for an agent that waits or has ended, and for every agent of a run that has collided.
+pub record PickAgrees (t plans ends : List ℕ) (r : Run ℕ) (i : ℕ) : Type 0 where
+  pub goes : (g : ℕ)
+      → (pickOn t plans ends r i ≡ gives (stepped r i g))
+      ↔ ((r .collided ≡ false) × Acts (setting t) (worldIn t plans ends r) i (worldIn t plans ends (stepped r i g)))
+  pub collides : (pickOn t plans ends r i ≡ gives (closed r)) ↔ ((r .collided ≡ false) × Collides (setting t) (worldIn t plans ends r) i)
+  pub nobody : (pickOn t plans ends r i ≡ refused 8) ↔ ¬ (i < members t)
+  pub impossible : (pickOn t plans ends r i ≡ refused 13)
+      ↔ ((i < members t) × ((r .collided ≡ true) ⊎ Stays (setting t) (worldIn t plans ends r) i))
+
+-- ---- solo search
 
 -- agent i alone can bring about s; and can go on from s to its goal
 abbrev pub Reachable : List ℕ → ℕ → ℕ → Type 0
@@ -93,27 +169,58 @@ Reachable t i s = (π : List ℕ) × Executes (setting t) i (setting t .init) π
 abbrev pub Completable : List ℕ → ℕ → ℕ → Type 0
 Completable t i s = (π : List ℕ) × (s′ : FactSet) × Executes (setting t) i (factsOf s) π s′ × (setting t .goal i ⊆ s′)
 
+-- agent i has an individual solution
+abbrev pub Solvable : List ℕ → ℕ → Type 0
+Solvable t i = (π : List ℕ) × Solution (setting t) i π
+
 -- the entries of a list are all different
-abbrev pub Distinct : List ℕ → Type 0
-Distinct xs = (i j : ℕ) → i < length xs → j < length xs → getD xs i 0 ≡ getD xs j 0 → i ≡ j
+abbrev pub Distinct : {A : Type 0} → A → List A → Type 0
+Distinct d xs = (i j : ℕ) → i < length xs → j < length xs → getD xs i d ≡ getD xs j d → i ≡ j
+
+-- the list has just the x that pass, each once
+pub record Lists {A : Type 0} (d : A) (P : A → Type 0) (xs : List A) : Type 0 where
+  pub distinct : Distinct d xs
+  pub just : (x : A) → List·Memᴰ x xs ↔ P x
+
+-- more than k different x pass
+pub record Exceed {A : Type 0} (d : A) (P : A → Type 0) (k : ℕ) : Type 0 where
+  pub some : List A
+  pub distinct : Distinct d some
+  pub each : (x : A) → List·Memᴰ x some → P x
+  pub more : k < length some
+
+-- breadth order: the first row, then for each row in turn those that it leads to, each new one once, at the end
+abbrev pub Breadth : {A : Type 0} → (A → A → Bool) → (A → List A) → A → List A → Type 0
+Breadth same next first rows = rows ≡ addAll same (first ∷ []) (flatten (map next rows))
+
+-- the table's rows after an answer, and their marks: 1 says live
+pub record SearchedRows (t : List ℕ) (i : ℕ) (rows marks : List ℕ) : Type 0 where
+  pub listed : Lists 0 (Reachable t i) rows
+  pub breadth : Breadth eqb (soloNext (system t) i) (Task.initial t) rows
+  pub marked : (k : ℕ) → k < length rows → (getD marks k 0 ≡ 1) ↔ Completable t i (getD rows k 0)
 
 pub record SoloSearchAgrees (t : List ℕ) (i : ℕ) (table marks : List ℕ) : Type 0 where
   -- 9 exactly when the reachable copies exceed the table
-  pub full : (soloSearch t i table marks .answer ≡ refused 9)
-      ↔ ((xs : List ℕ) × Distinct xs × ((x : ℕ) → List·Memᴰ x xs → Reachable t i x) × (length table < length xs))
-  -- an answer: the rows listed are the reachable copies, each once; mark 1 says live; and so of I
-  pub listed : (count : ℕ) (live : Bool)
+  pub full : (soloSearch t i table marks .answer ≡ refused 9) ↔ Exceed 0 (Reachable t i) (length table)
+  -- else an answer: the number of reachable copies, at most the table's length, and whether I is live
+  pub counted : (count : ℕ) (live : Bool)
+      → (soloSearch t i table marks .answer ≡ gives (record { count = count; live = live }))
+      ↔ ((count ≤ length table)
+      × ((xs : List ℕ) × Lists 0 (Reachable t i) xs × (length xs ≡ count))
+      × ((live ≡ true) ↔ Solvable t i))
+  -- and the rows
+  pub rows : (count : ℕ) (live : Bool)
       → soloSearch t i table marks .answer ≡ gives (record { count = count; live = live })
-      → Distinct (take count (soloSearch t i table marks .table))
-      × ((s : ℕ) → List·Memᴰ s (take count (soloSearch t i table marks .table)) ↔ Reachable t i s)
-      × ((k : ℕ) → k < count
-      → (getD (soloSearch t i table marks .marks) k 0 ≡ 1) ↔ Completable t i (getD (soloSearch t i table marks .table) k 0))
-      × ((live ≡ true) ↔ ((π : List ℕ) × Solution (setting t) i π))
+      → SearchedRows t i (take count (soloSearch t i table marks .table)) (soloSearch t i table marks .marks)
 
 pub record Demand2 : Type 0 where
   pub stepAgrees : (t : List ℕ) (a g : ℕ) → stepRefusal t a g ≡ 0 → StepAgrees t a g
   pub soloReplayAgrees : (t : List ℕ) (i : ℕ) (plan : List ℕ) → soloRefusal t i plan ≡ 0 → SoloReplayAgrees t i plan
-  pub jointReplayAgrees : (t plans ends : List ℕ) → plansRefusal t plans ends ≡ 0 → JointReplayAgrees t plans ends
+  pub jointReplayAgrees : (t plans ends : List ℕ) → JointReplayAgrees t plans ends
+  -- a run is handed in with a place for each member that a task can have
+  pub pickAgrees : (t plans ends : List ℕ) (r : Run ℕ) (i : ℕ) → length (r .places) ≡ mostMembers → RunFits t plans ends r
+      → PickAgrees t plans ends r i
+  pub pickAnswers : (t plans ends : List ℕ) (r r′ : Run ℕ) (i : ℕ) → pickOn t plans ends r i ≡ gives r′ → RunFits t plans ends r
   pub soloSearchAgrees : (t : List ℕ) (i : ℕ) (table marks : List ℕ)
       → searchRefusal t i (length table) (length marks) ≡ 0 → SoloSearchAgrees t i table marks
 
@@ -140,16 +247,104 @@ pub record Replays (t : List ℕ) (told : Failing) : Type 0 where
   pub replays : jointReplay t plans ends picks ≡ gives (record { outcome = failure (told .fault); shared = shared; picked = told .picked })
 
 -- For a task that is not refused, in which each member has a solving plan: the verdict is robust exactly when the finished runs are
--- just the successes. A verdict of not robust has a conflict that replays.
+-- just the successes, and exactly when the task's setting is robust. A verdict of not robust has a conflict that replays.
 pub record Demand3 (t : List ℕ) (room : Room) : Type 0 where
   pub robust : Choice (system t) → (v : Finding) → verdict t room ≡ gives v
       → ((count : ℕ) × (v ≡ robust count)) ↔ (finishedRuns (system t) (waits t) ≡ successes (system t) (waits t))
+  pub robustSetting : ((j : ℕ) → j < members t → Solvable t j) → (v : Finding) → verdict t room ≡ gives v
+      → ((count : ℕ) × (v ≡ Verdict.robust count)) ↔ Robust (setting t)
   pub notRobust : verdict t room ≡ gives (notRobust tt) → (told : Failing) × Replays t told
 
--- The same of a verdict's own answer: robust exactly when the finished runs are just the successes; and what is told of a conflict is
--- what joint replay of the conflict's slices answers.
-pub record Demand3Answer (t : List ℕ) (before after : Lent) (answer : Answer (Verdict Failing)) : Type 0 where
+-- the fault is one that a listed configuration shows
+abbrev pub ShownIn : List ℕ → Room → Fault → Type 0
+ShownIn t room f = (c : List ℕ) × List·Memᴰ c (listedIn t room) × List·Memᴰ f (faults (system t) (waits t) (liveFor t room) c)
+
+-- The same of a verdict's own answer; and what is told of a conflict is what joint replay of the conflict's slices answers, and a fault
+-- that a listed configuration shows.
+pub record Demand3Answer (t : List ℕ) (before after : Slices) (answer : Answer (Verdict Failing)) : Type 0 where
   pub robust : Choice (system t) → (v : Verdict Failing) → answer ≡ gives v
-      → ((count : ℕ) × (v ≡ robust count)) ↔ (finishedRuns (system t) (waits t) ≡ successes (system t) (waits t))
+      → ((count : ℕ) × (v ≡ Verdict.robust count)) ↔ (finishedRuns (system t) (waits t) ≡ successes (system t) (waits t))
+  pub robustSetting : ((j : ℕ) → j < members t → Solvable t j) → (v : Verdict Failing) → answer ≡ gives v
+      → ((count : ℕ) × (v ≡ Verdict.robust count)) ↔ Robust (setting t)
   pub notRobust : (told : Failing) → answer ≡ gives (notRobust told)
       → Conflict t told (length (listedFor t before)) before after
+  pub shown : (told : Failing) → answer ≡ gives (Verdict.notRobust told) → ShownIn t (room before) (told .fault)
+
+-- ---- what the verdict's search lists, and when it refuses
+
+-- a configuration that can be reached: the start, or what a move makes of one. A move is an action whose preconditions hold in its agent's
+-- local copy and in the shared copy, and after which the agent alone can go on to its goal.
+pub data Configured (t : List ℕ) : List ℕ → Type 0 where
+  at-start : Configured t (startRow (system t))
+  by-move : {c : List ℕ} {i a : ℕ} → Configured t c → setting t .ActionOf i a
+      → setting t .pre a ⊆ factsOf (localCopy (system t) c i)
+      → setting t .pre a ⊆ factsOf (sharedCopy (system t) c)
+      → Completable t i (system t .result a (localCopy (system t) c i))
+      → Configured t (moved (system t) c a)
+
+-- the listed configurations are those that can be reached, each once, in breadth order, by moves with a right test of liveness
+pub record ListedRows (t : List ℕ) (live : ℕ → ℕ → Bool) (rows : List (List ℕ)) : Type 0 where
+  pub listed : Lists [] (Configured t) rows
+  pub breadth : Breadth (sameRow eqb) (moves (system t) live) (startRow (system t)) rows
+  pub liveRight : (i s : ℕ) → i < members t → Reachable t i s → (live i s ≡ true) ↔ Completable t i s
+
+-- some agent's copies exceed K
+abbrev pub CopiesExceed : List ℕ → ℕ → Type 0
+CopiesExceed t K = (i : ℕ) × (i < members t) × Exceed 0 (Reachable t i) K
+
+-- of an accepted task with slices as long as asked
+pub record VerdictSearch (t : List ℕ) (room : Room) : Type 0 where
+  -- 9 exactly when an agent's copies exceed K or, each agent having a solution, the configurations exceed C; and no other refusal
+  pub full : (verdict t room ≡ refused 9)
+      ↔ (CopiesExceed t (localRows t (room .localTable))
+      ⊎ (((j : ℕ) → j < members t → Solvable t j) × Exceed [] (Configured t) (configurationRows t (room .configurationTable))))
+  pub noOther : (k : ℕ) → verdict t room ≡ refused k → k ≡ 9
+  -- unsolvable with the lowest agent that has no individual solution
+  pub unsolvable : (i : ℕ)
+      → (verdict t room ≡ gives (unsolvable i))
+      ↔ ((¬ CopiesExceed t (localRows t (room .localTable)))
+      × (i < members t)
+      × (¬ Solvable t i)
+      × ((j : ℕ) → j < i → Solvable t j))
+  -- else the configurations are listed, and robust has their number
+  pub listed : (v : Finding) → verdict t room ≡ gives v → ((j : ℕ) → j < members t → Solvable t j)
+      → ListedRows t (liveFor t room) (listedIn t room)
+  pub counted : (n : ℕ) → verdict t room ≡ gives (robust n) → n ≡ length (listedIn t room)
+
+abbrev pub Searches : Type 0
+Searches = (t : List ℕ) (room : Room) → check t ≡ 0 → tooShort t room ≡ false → VerdictSearch t room
+
+-- ---- the dispatcher: its picks make the runs of demand 3
+--
+-- Demand 1 of it is the contracts of its start, its pick and its list of picks, equal to `startOf`, `pickOn`, `playOn`.
+
+module _ (t plans ends : List ℕ) where
+  -- the public pick done for each of the picks, a refused one passed over
+  unfoldable pub pickEach : Run ℕ → List ℕ → Run ℕ
+  pickEach r [] = r
+  pickEach r (j ∷ js) = pickEach (passOver r (pickOn t plans ends r j)) js
+
+  -- plans in slices, as the dispatcher takes them, are the choice c
+  abbrev pub InSlices : Choice (system t) → Type 0
+  InSlices c = (plansRefusal t plans ends ≡ 0) × (plansOf (members t) plans ends ≡ c .plans)
+
+-- the run of demand 3
+abbrev pub madeRun : (t : List ℕ) → Choice (system t) → List ℕ → Run ℕ
+madeRun t c picks = play (system t) (waits t) (c .plans) (start (system t)) picks
+
+pub record PickedRuns (t plans ends : List ℕ) (c : Choice (system t)) : Type 0 where
+  -- the public pick done for each of the picks, from the start, makes the run of demand 3
+  pub each : (picks : List ℕ) → pickEach t plans ends (start (system t)) picks ≡ madeRun t c picks
+  -- no such pick is refused but an impossible one
+  pub impossible : (picks : List ℕ) (j k : ℕ)
+      → pickOn t plans ends (madeRun t c picks) j ≡ refused k → (k ≡ 8) ⊎ (k ≡ 13)
+  -- and so does the list of picks at once
+  pub atOnce : (picks : List ℕ) → playOn t plans ends (start (system t)) picks ≡ gives (madeRun t c picks)
+
+-- For a task that is not refused: the start is given; plans that are not refused are a choice, and each choice can be
+-- laid in slices; the dispatcher's picks make the choice's runs.
+pub record Dispatcher (t : List ℕ) : Type 0 where
+  pub starts : startOf t ≡ gives (start (system t))
+  pub chosen : (plans ends : List ℕ) → plansRefusal t plans ends ≡ 0 → (c : Choice (system t)) × InSlices t plans ends c
+  pub laid : (c : Choice (system t)) → (plans : List ℕ) × (ends : List ℕ) × InSlices t plans ends c
+  pub runs : (plans ends : List ℕ) (c : Choice (system t)) → InSlices t plans ends c → PickedRuns t plans ends c

@@ -1,6 +1,5 @@
 pub mod Base
 pub mod Demands
-pub mod Laws
 pub mod Listing
 pub mod Mask
 pub mod Model

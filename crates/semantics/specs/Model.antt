@@ -6,6 +6,7 @@ use mathlib.Core.Bool.{Bool, true, cond, not, _&&_, _||_}
 use mathlib.Core.Logic.{_⊎_}
 use mathlib.Core.List.{List, [], _∷_}
 use Prim.Native.Nat.{ℕ, _<_}
+use lib.ListN.{length, getD}
 use lib.Dec.{eqb}
 
 abbrev pub FactSet : Type 0
@@ -84,3 +85,25 @@ module _ (Π : Setting) where
   -- the scheduler can go on
   abbrev pub GoesOn : World → Type 0
   GoesOn w = (i : ℕ) × (Collides w i ⊎ ((w′ : World) × Acts w i w′))
+
+  -- ---- robustness
+
+  -- the world at the start, with one plan for each agent
+  abbrev pub begin : List (List ℕ) → World
+  begin plans = record { state = Π .init; left = λ j. getD plans j [] }
+
+  -- one individual solution for each agent
+  pub record Solutions (plans : List (List ℕ)) : Type 0 where
+    pub many : length plans ≡ Π .agents
+    pub each : (i : ℕ) → i < Π .agents → Solution i (getD plans i [])
+
+  -- no pending action collides, there is no deadlock, and where all plans are done all goals hold
+  pub record Faultless (w : World) : Type 0 where
+    pub no-collision : (i : ℕ) → ¬ Collides w i
+    pub no-deadlock : ¬ Deadlock w
+    pub no-miss : Ended w → (i : ℕ) → i < Π .agents → Π .goal i ⊆ w .state
+
+  -- rational robustness (000), a goal missed at the end being a fault too (001): whatever individual solutions the agents choose and
+  -- whatever the scheduler does, no world of the execution shows a fault
+  abbrev pub Robust : Type 0
+  Robust = (plans : List (List ℕ)) → Solutions plans → (is : List ℕ) (w : World) → Execution (begin plans) is w → Faultless w

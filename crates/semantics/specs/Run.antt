@@ -5,11 +5,11 @@ use Prim.Native.Nat.{ℕ, _+_}
 use lib.ListN.{length, getD, drop, set, replicate}
 use lib.Seq.{slice}
 use lib.Dec.{eqb, ltb, leb}
-use Rattle.semantics.specs.Base.{upTo, any, all, _if_, _else_, firstRefusal, Answer, refused, gives, unless}
+use Rattle.semantics.specs.Base.{upTo, anyOf, allOf, _if_, _else_, firstRefusal, Answer, refused, gives, unless}
 use Rattle.semantics.specs.Mask.{below}
 use Rattle.semantics.specs.Task.{check, members, facts}
 use Rattle.semantics.specs.System.{System, Waits, system, waits}
-use Rattle.semantics.specs.Step.{Decision, decide}
+use Rattle.semantics.specs.Step.{Decision, routine}
 use Rattle.semantics.specs.Solo.{Solo, solves, breaks, short, soloFrom, entry}
 
 -- a run, beside its plans: the shared copy, each member's place in its plan, and whether it has collided
@@ -88,7 +88,7 @@ module _ (S : System) (waits : Waits S) (plans : List (List ℕ)) where
   -- a pick of member j with these steps left
   unfoldable pub pickStep : Run (S .State) → ℕ → List ℕ → Answer (Run (S .State))
   pickStep r j [] = refused 13
-  pickStep r j (a ∷ p) = advance r j (decide S waits a (r .shared))
+  pickStep r j (a ∷ p) = advance r j (routine S waits a (r .shared))
 
   -- a pick: the run after it, which has collided if the pick did; or 8 no member, 13 no possible pick
   unfoldable pub pick : Run (S .State) → ℕ → Answer (Run (S .State))
@@ -96,11 +96,11 @@ module _ (S : System) (waits : Waits S) (plans : List (List ℕ)) where
 
   -- some member can be picked
   unfoldable pub pickable : Run (S .State) → Bool
-  pickable r = any (λ j. given (pick r j)) (upTo (S .members))
+  pickable r = anyOf (λ j. given (pick r j)) (upTo (S .members))
 
   -- some member has steps left
   unfoldable pub stepsLeft : Run (S .State) → Bool
-  stepsLeft r = any (λ j. ltb 0 (length (rest plans r j))) (upTo (S .members))
+  stepsLeft r = anyOf (λ j. ltb 0 (length (rest plans r j))) (upTo (S .members))
 
   -- a run is finished when it has collided or no member can be picked
   unfoldable pub outcome : Run (S .State) → Outcome
@@ -140,7 +140,7 @@ plansOf n plans ends = map (planOf plans ends) (upTo n)
 unfoldable pub endsFit : ℕ → List ℕ → List ℕ → Bool
 endsFit n plans ends =
     eqb (length ends) n
-    && all (λ j. leb (beginning ends j) (getD ends j 0)) (upTo n)
+    && allOf (λ j. leb (beginning ends j) (getD ends j 0)) (upTo n)
     && eqb (beginning ends n) (length plans)
 
 abbrev pub isSolves : Solo → Bool
@@ -165,12 +165,27 @@ unfoldable pub jointReplay : List ℕ → List ℕ → List ℕ → List ℕ →
 jointReplay t plans ends picks =
     unless (plansRefusal t plans ends) (replay (system t) (waits t) (plansOf (members t) plans ends) picks)
 
--- ---- a pick on a run, any run being handed in
+-- ---- the dispatcher: a run that is handed in, any run
 
+-- the run at the start
+abbrev pub startOf : List ℕ → Answer (Run ℕ)
+startOf t = unless (check t) (gives (start (system t)))
+
+-- some member's place is past its plan's end
+abbrev pub pastEnd : List ℕ → List ℕ → List ℕ → Run ℕ → Bool
+pastEnd t plans ends r = anyOf (λ i. ltb (length (planOf plans ends i)) (getD (r .places) i 0)) (upTo (members t))
+
+-- the run's check, after the plans' check: 4 shared bits, 11 a place past its plan's end
+abbrev pub runRefusal : List ℕ → List ℕ → List ℕ → Run ℕ → ℕ
+runRefusal t plans ends r =
+    plansRefusal t plans ends else (4 if not (below (facts t) (r .shared))) else (11 if pastEnd t plans ends r)
+
+-- a pick on a run
 unfoldable pub pickOn : List ℕ → List ℕ → List ℕ → Run ℕ → ℕ → Answer (Run ℕ)
 pickOn t plans ends r j =
-    unless
-    (plansRefusal t plans ends
-    else (4 if not (below (facts t) (r .shared)))
-    else (11 if any (λ i. ltb (length (planOf plans ends i)) (getD (r .places) i 0)) (upTo (members t))))
-    (pick (system t) (waits t) (plansOf (members t) plans ends) r j)
+    unless (runRefusal t plans ends r) (pick (system t) (waits t) (plansOf (members t) plans ends) r j)
+
+-- a list of picks on a run: an impossible pick is passed over and changes nothing
+unfoldable pub playOn : List ℕ → List ℕ → List ℕ → Run ℕ → List ℕ → Answer (Run ℕ)
+playOn t plans ends r picks =
+    unless (runRefusal t plans ends r) (gives (play (system t) (waits t) (plansOf (members t) plans ends) r picks))

@@ -25,12 +25,12 @@ isCollision wait = false
 isCollision collision = true
 
 -- action a at the shared copy g
-unfoldable pub decide : (S : System) → Waits S → ℕ → S .State → Decision (S .State)
-decide S waits a g = cond (waits a g) wait (cond (S .able a g) (go (S .result a g)) collision)
+unfoldable pub routine : (S : System) → Waits S → ℕ → S .State → Decision (S .State)
+routine S waits a g = cond (waits a g) wait (cond (S .able a g) (go (S .result a g)) collision)
 
 abbrev pub stepRefusal : List ℕ → ℕ → ℕ → ℕ
 stepRefusal t a g = check t else (7 if not (ltb a (actions t))) else (4 if not (below (facts t) g))
 
 -- the operation
 unfoldable pub step : List ℕ → ℕ → ℕ → Answer (Decision ℕ)
-step t a g = unless (stepRefusal t a g) (gives (decide (system t) (waits t) a g))
+step t a g = unless (stepRefusal t a g) (gives (routine (system t) (waits t) a g))

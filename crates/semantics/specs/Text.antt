@@ -1,10 +1,10 @@
 -- Document 01, "Text and verdict program": what is a text of records, the words it gives, and the text reader.
 use mathlib.Core.Bool.{Bool, true, false, cond, not, _&&_}
 use mathlib.Core.List.{List, [], _∷_, _++_, map, foldl, flatten}
-use Prim.Native.Nat.{ℕ, zero, suc, _+_, _-_, _*_, _^_}
+use Prim.Native.Nat.{ℕ, _+_, _-_, _*_, _^_}
 use lib.ListN.{length}
 use lib.Dec.{eqb, ltb, leb}
-use Rattle.semantics.specs.Base.{all, _if_, _else_, Answer, refused, gives, padded, zeroed}
+use Rattle.semantics.specs.Base.{allOf, _if_, _else_, Answer, refused, gives, _leaves_otherwise_, padded, zeroed}
 use Rattle.semantics.specs.Task.{rowWidth, check, between}
 
 abbrev pub comma : ℕ
@@ -54,16 +54,15 @@ noLeadingZero (b ∷ []) = true
 noLeadingZero (b ∷ c ∷ bs) = not (eqb b 48)
 
 unfoldable pub isField : List ℕ → Bool
-isField f = all isDigit f && noLeadingZero f && ltb (number f) (2 ^ 64)
+isField f = allOf isDigit f && noLeadingZero f && ltb (number f) (2 ^ 64)
 
-unfoldable pub isRecord : List ℕ → Bool
-isRecord r = eqb (length (fields r)) rowWidth && all isField (fields r)
+-- a record of w fields
+unfoldable pub isRecord : ℕ → List ℕ → Bool
+isRecord w r = eqb (length (fields r)) w && allOf isField (fields r)
 
-abbrev pub mostRecords : ℕ
-mostRecords = 265
-
-unfoldable pub isText : List ℕ → Bool
-isText text = leb (length (records text)) mostRecords && all isRecord (records text)
+-- a text of at most n records, each of w fields
+unfoldable pub isText : ℕ → ℕ → List ℕ → Bool
+isText w n text = leb (length (records text)) n && allOf (isRecord w) (records text)
 
 unfoldable pub textWords : List ℕ → List ℕ
 textWords text = flatten (map (λ r. map number (fields r)) (records text))
@@ -73,17 +72,22 @@ pub record Reading : Type 0 where
   pub answer : Answer ℕ
   pub words : List ℕ
 
--- 14 writes nothing; 15 and the task check leave the word slice all zeros
-abbrev pub readUnless : ℕ → ℕ → List ℕ → Reading → Reading
-readUnless (suc r) s words reading = record { answer = refused (suc r); words = words }
-readUnless zero (suc s) words reading = record { answer = refused (suc s); words = zeroed words }
-readUnless zero zero words reading = reading
+-- refused with this number, and the word slice then holds these words
+abbrev pub refusedWith : List ℕ → ℕ → Reading
+refusedWith words r = record { answer = refused r; words = words }
+
+-- the reader of a text of at most n records of w fields: 14 writes nothing; 15 and the words' own refusal leave the word
+-- slice all zeros
+unfoldable pub readRecords : ℕ → ℕ → (List ℕ → ℕ) → List ℕ → List ℕ → Reading
+readRecords w n refusal text words =
+    (14 if ltb (length words) (w * n)) leaves refusedWith words otherwise
+    ((15 if not (isText w n text)) else refusal (textWords text)) leaves refusedWith (zeroed words) otherwise
+    record { answer = gives (length (records text)); words = padded (length words) (textWords text) }
+
+-- ---- the text of a task
+
+abbrev pub mostRecords : ℕ
+mostRecords = 265
 
 unfoldable pub readText : List ℕ → List ℕ → Reading
-readText text words =
-    let reading : Reading = record { answer = gives (length (records text)); words = padded (length words) (textWords text) } in
-    readUnless
-    (14 if ltb (length words) (rowWidth * mostRecords))
-    ((15 if not (isText text)) else check (textWords text))
-    words
-    reading
+readText text words = readRecords rowWidth mostRecords check text words

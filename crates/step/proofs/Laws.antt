@@ -10,7 +10,7 @@ use Rattle.semantics.specs.Mask.{within, after, below}
 use Rattle.semantics.specs.Task as Task
 use Rattle.semantics.specs.Task.{check, facts, actions}
 use Rattle.semantics.specs.System.{system, waits}
-use Rattle.semantics.specs.Step.{Decision, go, wait, collision, decide, step}
+use Rattle.semantics.specs.Step.{Decision, go, wait, collision, routine, step}
 
 -- ---- actions on a mask
 
@@ -27,17 +27,17 @@ module _ (t : List ℕ) (a m x : ℕ) where
 -- ---- the routine
 
 module _ (t : List ℕ) (a g : ℕ) (b : Bool) (k : b ≡ waits t a g) where
-  pub waits-there : b ≡ true → wait ≡ decide (system t) (waits t) a g
-  unfolding decide
+  pub waits-there : b ≡ true → wait ≡ routine (system t) (waits t) a g
+  unfolding routine
   waits-there h = rw (← k, h)
 
   module _ (h : b ≡ false) (c : Bool) (k₁ : c ≡ system t .able a g) where
-    pub collides-there : not c ≡ true → collision ≡ decide (system t) (waits t) a g
-    unfolding decide
+    pub collides-there : not c ≡ true → collision ≡ routine (system t) (waits t) a g
+    unfolding routine
     collides-there h₁ = rw (← k, h, ← k₁, not-true c h₁)
 
-    pub goes-there : not c ≡ false → (n : ℕ) → n ≡ system t .result a g → go n ≡ decide (system t) (waits t) a g
-    unfolding decide
+    pub goes-there : not c ≡ false → (n : ℕ) → n ≡ system t .result a g → go n ≡ routine (system t) (waits t) a g
+    unfolding routine
     goes-there h₁ n k₂ = rw (← k, h, ← k₁, not-false c h₁, ← k₂)
 
 -- ---- the operation
@@ -58,6 +58,6 @@ module _ (t : List ℕ) (a g : ℕ) where
       unfolding step
       step-shared h₂ = let l : a < actions t = omega arith in rw (← e, h, lt-ltb a (actions t) l, ← e₂, ← k, not-true b h₂)
 
-      pub step-decides : not b ≡ false → (d : Decision ℕ) → d ≡ decide (system t) (waits t) a g → gives d ≡ step t a g
+      pub step-decides : not b ≡ false → (d : Decision ℕ) → d ≡ routine (system t) (waits t) a g → gives d ≡ step t a g
       unfolding step
       step-decides h₂ d k₁ = let l : a < actions t = omega arith in rw (← e, h, lt-ltb a (actions t) l, ← e₂, ← k, not-false b h₂, ← k₁)

@@ -3,7 +3,7 @@ ghost use mathlib.Core.Path.{_≡_};
 ghost use Prim.Native.Nat.{_<_};
 ghost use Rattle.semantics.specs.Task.{check, actions};
 ghost use Rattle.semantics.specs.System.{system, waits};
-ghost use Rattle.semantics.specs.Step.{decide, step};
+ghost use Rattle.semantics.specs.Step.{routine, step};
 ghost use Rattle.mask.specs.Number.{number, localNumber, sharedNumber};
 ghost use Rattle.step.specs.Value.{decisionOf, steppedOf};
 use mask::Local;
@@ -78,7 +78,7 @@ pub fn local_result(t: &[u64], a: usize, s: Local) -> Local
 pub fn decide(t: &[u64], a: usize, g: Shared) -> Decision
     requires { ⌜ check (now t) ≡ 0 ⌝ }
     requires { ⌜ a < actions (now t) ⌝ }
-    ensures { λ r. ⌜ decisionOf r ≡ decide (system (now (t .entry))) (waits (now (t .entry))) a (sharedNumber g) ⌝ }
+    ensures { λ r. ⌜ decisionOf r ≡ routine (system (now (t .entry))) (waits (now (t .entry))) a (sharedNumber g) ⌝ }
 {
     if waits(t, a, g.0) {
         return Decision::Wait;

@@ -11,7 +11,7 @@ use Rattle.semantics.specs.Base.{_if_}
 use Rattle.semantics.specs.Mask.{within, below}
 use Rattle.semantics.specs.Task.{rowWidth, word, facts, members, actions, initial, goal, actionWord, owner, pre, wait, add, del, between, headFits, goalRow, actionRow, check}
 use Rattle.theory.proofs.Lists.{and-elim}
-use Rattle.task.specs.Shape.{Sized, masksBelow, rowsRefusal}
+use Rattle.task.specs.Inner.Shape.{Sized, masksBelow, rowsRefusal}
 
 and-right : (a b : Bool) → b ≡ false → (a && b) ≡ false
 and-right true b h = h

@@ -6,7 +6,7 @@ use native.Mathlib.Omega.{arith}
 use native.Mathlib.Numerals.{add-one}
 use lib.ListN.{length, getD, drop, drop-of-length-le}
 use lib.Seq.{drop-cons}
-use Rattle.semantics.specs.Base.{range, upTo, _else_, firstRefusal}
+use Rattle.semantics.specs.Base.{numbersFrom, upTo, _else_, firstRefusal}
 use Rattle.theory.proofs.Refusals.{else-both}
 
 else-first : (e s : ℕ) → (e ≡ 0 → ⊥) → e ≡ e else s
@@ -54,13 +54,13 @@ module _ (f : ℕ → ℕ) (xs : List ℕ) where
 
 -- ---- the same of the numbers below n, where N is n
 
-range-length : (k c : ℕ) → length (range k c) ≡ c
-unfolding range
+range-length : (k c : ℕ) → length (numbersFrom k c) ≡ c
+unfolding numbersFrom
 range-length k zero = refl
 range-length k (suc c) = ap suc (range-length (suc k) c)
 
-range-at : (k c i : ℕ) → i < c → getD (range k c) i 0 ≡ k + i
-unfolding range
+range-at : (k c i : ℕ) → i < c → getD (numbersFrom k c) i 0 ≡ k + i
+unfolding numbersFrom
 range-at k zero i h = absurd (omega arith)
 range-at k (suc c) zero h = omega arith
 range-at k (suc c) (suc i) h = let e = range-at (suc k) c i (omega arith) in omega (arith, e)

@@ -8,7 +8,7 @@ ghost use Rattle.semantics.specs.Base.{upTo, firstRefusal};
 ghost use Rattle.semantics.specs.Task.{rowWidth, word, facts, members, actions, initial, goal, actionWord, owner, pre, wait, add, del, headFits, goalRow, actionRow, check};
 ghost use Rattle.mask.specs.Number.{number};
 ghost use Rattle.semantics.specs.Mask.{below, within};
-ghost use Rattle.task.specs.Shape.{Sized, masksBelow, rowsRefusal};
+ghost use Rattle.task.specs.Inner.Shape.{Sized, masksBelow, rowsRefusal};
 use mask::Mask;
 
 // Words in a row.

@@ -1,23 +1,32 @@
--- Where the reader stands in a text: what was read, as the meaning's records and fields, and what each byte makes of it. Assumes nothing.
+-- Where the reader stands in a text of at most `limit` records of w fields: what was read, as the meaning's records and
+-- fields, and what each byte makes of it. Assumes nothing.
 use mathlib.Core.Path.{_≡_, refl, sym, ap, ap₂, subst, _∙_}
 use mathlib.Core.Bool.{true, false}
 use mathlib.Core.List.{List, [], _∷_, _++_, map, map-append, flatten, append-assoc, append-nil}
-use Prim.Native.Nat.{ℕ, _+_, _-_, _*_, _/_, _^_, _≤_, _<_}
+use Prim.Native.Nat.{ℕ, suc, _+_, _-_, _*_, _/_, _^_, _≤_, _<_}
+use native.Mathlib.Nat.{mul-le-mul-left, mul-suc}
+use native.Mathlib.Numerals.{add-one}
 use native.Mathlib.Omega.{arith}
 use lib.ListN.{length, length-append}
 use lib.Dec.{eqb, ltb, leb}
 use borrow.Author.Tests.{ltb-true, ltb-false, leb-true, leb-false, ne-eqb, eqb-true, eqb-false}
-use Rattle.semantics.specs.Base.{all}
-use Rattle.semantics.specs.Task.{rowWidth}
-use Rattle.semantics.specs.Text.{comma, cr, lf, mostRecords, isDigit, recordsFrom, records, fields, number, isField, isRecord, isText, textWords}
-use Rattle.text.proofs.Lists.{cond-ind, all-one, all-fails, all-head, all-both, number-snoc, number-one, digit-low, digit-high, field-other, field-large, field-none, field-zero, field-one, field-more, Parsed, parsed-none, parsed-byte, parsed-comma, parsed-fields, Dead, record-made, record-bad, record-wrong, dead-field, dead-many, dead-done, snoc-some, records-end, records-line, records-byte, records-cr, records-cr-end, records-next, records-dead, records-some, wordsOf, words-snoc, words-text, text-good, text-bad, text-long}
-use Rattle.text.specs.Byte.{byteMeans}
-use Rattle.text.specs.Post.{mostWords}
-use Rattle.text.specs.Place.{at, InReach, first, later, ended, stepIn, lastIn}
+use Rattle.semantics.specs.Base.{allOf}
+use Rattle.semantics.specs.Text.{comma, cr, lf, isDigit, recordsFrom, records, fields, number, isField, isRecord}
+use Rattle.semantics.specs.Text.{isText, textWords}
+use Rattle.text.proofs.Lists.{cond-ind, all-one, all-fails, all-head, all-both, number-snoc, number-one}
+use Rattle.text.proofs.Lists.{digit-low, digit-high, field-other, field-large, field-none, field-zero, field-one}
+use Rattle.text.proofs.Lists.{field-more, Parsed, parsed-none, parsed-byte, parsed-comma, parsed-fields, Dead}
+use Rattle.text.proofs.Lists.{record-made, record-bad, record-wrong, dead-field, dead-many, dead-done, dead-now}
+use Rattle.text.proofs.Lists.{snoc-some, records-end, records-line, records-byte, records-cr, records-cr-end}
+use Rattle.text.proofs.Lists.{records-next, records-dead, records-some, wordsOf, words-snoc, words-text}
+use Rattle.text.proofs.Lists.{text-good, text-bad, text-long}
+use Rattle.text.specs.Inner.Byte.{byteMeans}
+use Rattle.text.specs.Inner.Place.{InReach, first, later, ended, stepIn, lastIn}
 use Rattle.text.specs.declared.Byte.{Byte}
 use Rattle.text.specs.declared.Byte.the-variants.{Digit, Comma, Cr, Lf, Other}
 use Rattle.text.specs.declared.Field.{Field}
 use Rattle.text.specs.declared.Field.the-variants.{Empty, Number, Ended}
+use Rattle.text.specs.declared.Place.{Place}
 use Rattle.text.specs.declared.Next.{Next}
 use Rattle.text.specs.declared.Next.the-variants.{On, Word, Bad}
 use Rattle.text.specs.declared.Last.{Last}
@@ -29,31 +38,56 @@ held Empty t = t
 held (Number v) t = t
 held Ended t = cr ∷ t
 
--- the bytes p of the present record are the fields done and the digits ds of the next
-abbrev Within : ℕ → ℕ → List ℕ → List (List ℕ) → List ℕ → Field → Type 0
-Within k f p done ds Empty = Parsed p done [] × (f < rowWidth) × (f ≡ 0 → p ≡ []) × ((f ≡ 0 → ⊥) → (p ≡ [] → ⊥) × (k < mostRecords))
-Within k f p done ds (Number v) = Parsed p done ds × (isField ds ≡ true) × (number ds ≡ v) × (f < rowWidth) × (p ≡ [] → ⊥) × (k < mostRecords)
-Within k f p done ds Ended = (fields p ≡ done) × (f ≡ rowWidth) × Dead (p ++ (cr ∷ [])) × (k < mostRecords)
+-- the bytes p of the present record, after k records and f of its fields
+
+-- the fields done, each with its comma, and no byte of the next
+record Begun (w limit k f : ℕ) (p : List ℕ) (done : List (List ℕ)) : Type 0 where
+  parsed : Parsed p done []
+  fewer : f < w
+  none : f ≡ 0 → p ≡ []
+  some : (f ≡ 0 → ⊥) → (p ≡ [] → ⊥) × (k < limit)
+
+-- the fields done, each with its comma, and digits ds that write v
+record Written (w limit k f : ℕ) (p : List ℕ) (done : List (List ℕ)) (ds : List ℕ) (v : ℕ) : Type 0 where
+  parsed : Parsed p done ds
+  right : isField ds ≡ true
+  value : number ds ≡ v
+  fewer : f < w
+  some : p ≡ [] → ⊥
+  counted : k < limit
+
+-- the fields done, which are all of the record's; CR stands after it
+record Over (w limit k f : ℕ) (p : List ℕ) (done : List (List ℕ)) : Type 0 where
+  parsed : fields p ≡ done
+  whole : f ≡ w
+  dead : Dead w (p ++ (cr ∷ []))
+  counted : k < limit
+
+abbrev Within : ℕ → ℕ → ℕ → ℕ → List ℕ → List (List ℕ) → List ℕ → Field → Type 0
+Within w limit k f p done ds Empty = Begun w limit k f p done
+Within w limit k f p done ds (Number v) = Written w limit k f p done ds v
+Within w limit k f p done ds Ended = Over w limit k f p done
 
 -- k records and f fields are read, their words are ws, and t is left of the text
-pub record Stands (text ws : List ℕ) (k f : ℕ) (field : Field) (t : List ℕ) : Type 0 where
+pub record Stands (w limit : ℕ) (text ws : List ℕ) (k f : ℕ) (field : Field) (t : List ℕ) : Type 0 where
   earlier : List (List ℕ)
   p : List ℕ
   done : List (List ℕ)
   ds : List ℕ
   split : records text ≡ earlier ++ recordsFrom p (held field t)
-  sound : all isRecord earlier ≡ true
+  sound : allOf (isRecord w) earlier ≡ true
   count : length earlier ≡ k
-  most : k ≤ mostRecords
+  most : k ≤ limit
   several : length done ≡ f
-  right : all isField done ≡ true
+  right : allOf isField done ≡ true
   words : ws ≡ wordsOf earlier ++ map number done
-  size : length ws ≡ rowWidth * k + f
-  within : Within k f p done ds field
+  size : length ws ≡ w * k + f
+  wide : 0 < w
+  within : Within w limit k f p done ds field
 
-pub stands-first : (text : List ℕ) → Stands text [] 0 0 Empty text
-unfolding all flatten
-stands-first text = record {
+pub stands-first : (w limit : ℕ) (text : List ℕ) → 0 < w → Stands w limit text [] 0 0 Empty text
+unfolding allOf flatten
+stands-first w limit text some = record {
   earlier = [];
   p = [];
   done = [];
@@ -66,60 +100,85 @@ stands-first text = record {
   right = refl;
   words = refl;
   size = omega arith;
-  within = (parsed-none, omega arith, λ e. refl, λ n. absurd (n refl));
+  wide = some;
+  within = record { parsed = parsed-none; fewer = some; none = λ e. refl; some = λ n. absurd (n refl) };
 }
 
 -- what a byte leads to
-abbrev pub After : List ℕ → List ℕ → List ℕ → Next → Type 0
-After text ws t (On q) = Stands text ws (q .records) (q .fields) (q .field) t
-After text ws t (Word v q) = (length ws < mostWords) × Stands text (ws ++ (v ∷ [])) (q .records) (q .fields) (q .field) t
-After text ws t Bad = isText text ≡ false
+abbrev pub After : ℕ → ℕ → List ℕ → List ℕ → List ℕ → Next → Type 0
+After w limit text ws t (On q) = Stands w limit text ws (q .records) (q .fields) (q .field) t
+After w limit text ws t (Word v q) =
+    (length ws < w * limit) × Stands w limit text (ws ++ (v ∷ [])) (q .records) (q .fields) (q .field) t
+After w limit text ws t Bad = isText w limit text ≡ false
 
--- limits that the code's sums keep
-pub limits : {text ws : List ℕ} {k f : ℕ} {field : Field} {t : List ℕ} → Stands text ws k f field t → InReach (at k f field)
-limits {field = Empty} s = record { records = s .most; fields = omega (arith, s .within .1) }
-limits {field = Number v} s = record { records = s .most; fields = omega (arith, s .within .3) }
-limits {field = Ended} s = record { records = s .most; fields = omega (arith, s .within .1) }
+-- the reader stands at a place that occurs
+pub reach : {w limit : ℕ} {text ws : List ℕ} (q : Place) {t : List ℕ}
+    → Stands w limit text ws (q .records) (q .fields) (q .field) t → InReach w limit q
+reach {w} {limit} q s = record {
+  field-within = λ v e. written v e .fewer;
+  record-within = λ v e. written v e .counted;
+  ended-within = λ e. over e .counted;
+}
+  where
+    written : (v : ℕ) → q .field ≡ Number v → Written w limit (q .records) (q .fields) (s .p) (s .done) (s .ds) v
+    written v e = subst (Within w limit (q .records) (q .fields) (s .p) (s .done) (s .ds)) e (s .within)
+
+    over : q .field ≡ Ended → Over w limit (q .records) (q .fields) (s .p) (s .done)
+    over e = subst (Within w limit (q .records) (q .fields) (s .p) (s .done) (s .ds)) e (s .within)
+
+-- ---- the places of words
+
+-- the record after k
+row-next : (w k : ℕ) → w * (k + 1) ≡ w * k + w
+row-next w k = ap (λ (x : ℕ). w * x) (add-one k) ∙ mul-suc w k
+
+-- the words of k records are before those of the limit
+row-room : (w k limit : ℕ) → k < limit → w * k + w ≤ w * limit
+row-room w k limit h =
+    let l : w * (k + 1) ≤ w * limit = mul-le-mul-left w (omega arith) in
+    omega (arith, row-next w k)
 
 -- ---- what is no text
 
-module _ (text : List ℕ) (earlier : List (List ℕ)) (p t : List ℕ) (b : ℕ) (split : records text ≡ earlier ++ recordsFrom p (b ∷ t)) where
+module _ (w limit : ℕ) (text : List ℕ) (earlier : List (List ℕ)) (p t : List ℕ) (b : ℕ)
+    (split : records text ≡ earlier ++ recordsFrom p (b ∷ t)) where
+  no-text : allOf (isRecord w) (recordsFrom p (b ∷ t)) ≡ false → isText w limit text ≡ false
+  no-text h =
+      text-bad w limit text (ap (allOf (isRecord w)) split ∙ all-fails (isRecord w) earlier (recordsFrom p (b ∷ t)) h)
+
   -- what was read is no record, nor is it with the byte
-  bad-both : isRecord p ≡ false → Dead (p ++ (b ∷ [])) → isText text ≡ false
-  bad-both n h =
-      text-bad text
-      (ap (all isRecord) split ∙ all-fails isRecord earlier (recordsFrom p (b ∷ t))
-      (records-next p t b n (records-dead (p ++ (b ∷ [])) t (snoc-some p b) h)))
+  bad-both : isRecord w p ≡ false → Dead w (p ++ (b ∷ [])) → isText w limit text ≡ false
+  bad-both n h = no-text (records-next w p t b n (records-dead w (p ++ (b ∷ [])) t (snoc-some p b) h))
 
   -- with a byte that ends no record it is none
-  bad-byte : eqb b cr ≡ false → Dead (p ++ (b ∷ [])) → isText text ≡ false
+  bad-byte : eqb b cr ≡ false → Dead w (p ++ (b ∷ [])) → isText w limit text ≡ false
   bad-byte n h =
-      text-bad text
-      (ap (all isRecord) split ∙ all-fails isRecord earlier (recordsFrom p (b ∷ t))
-      (ap (all isRecord) (records-byte p t b n) ∙ records-dead (p ++ (b ∷ [])) t (snoc-some p b) h))
+      no-text (ap (allOf (isRecord w)) (records-byte p t b n) ∙ records-dead w (p ++ (b ∷ [])) t (snoc-some p b) h)
 
   -- a record too many
-  bad-more : mostRecords ≤ length earlier → isText text ≡ false
+  bad-more : limit ≤ length earlier → isText w limit text ≡ false
   bad-more h =
-      text-long text
+      text-long w limit text
       (omega (arith, ap length split, length-append earlier (recordsFrom p (b ∷ t)), records-some p t b))
 
--- an empty field
-empty-record : (p : List ℕ) (done : List (List ℕ)) → Parsed p done [] → isRecord p ≡ false
-empty-record p done h =
-    record-bad p
-    (ap (all isField) (parsed-fields p done [] h) ∙ all-fails isField done ([] ∷ []) (all-head isField [] [] field-none))
+module _ (w : ℕ) where
+  -- an empty field
+  empty-record : (p : List ℕ) (done : List (List ℕ)) → Parsed p done [] → isRecord w p ≡ false
+  empty-record p done h =
+      record-bad w p
+      (ap (allOf isField) (parsed-fields p done [] h)
+      ∙ all-fails isField done ([] ∷ []) (all-head isField [] [] field-none))
 
--- a byte that is no digit
-dead-other : (p : List ℕ) (done : List (List ℕ)) (ds : List ℕ) → Parsed p done ds → (b : ℕ) → eqb b comma ≡ false → isDigit b ≡ false
-    → Dead (p ++ (b ∷ []))
-dead-other p done ds h b c d =
-    dead-field (p ++ (b ∷ [])) done (ds ++ (b ∷ [])) (parsed-byte p done ds h b c) (field-other ds b d)
+  -- a byte that is no digit
+  dead-other : (p : List ℕ) (done : List (List ℕ)) (ds : List ℕ) → Parsed p done ds → (b : ℕ) → eqb b comma ≡ false
+      → isDigit b ≡ false → Dead w (p ++ (b ∷ []))
+  dead-other p done ds h b c d =
+      dead-field w (p ++ (b ∷ [])) done (ds ++ (b ∷ [])) (parsed-byte p done ds h b c) (field-other ds b d)
 
-dead-comma : (p : List ℕ) (done : List (List ℕ)) → Parsed p done [] → Dead (p ++ (comma ∷ []))
-dead-comma p done h =
-    dead-done (p ++ (comma ∷ [])) (done ++ ([] ∷ [])) [] (parsed-comma p done [] h)
-    (all-fails isField done ([] ∷ []) (all-head isField [] [] field-none))
+  dead-comma : (p : List ℕ) (done : List (List ℕ)) → Parsed p done [] → Dead w (p ++ (comma ∷ []))
+  dead-comma p done h =
+      dead-done w (p ++ (comma ∷ [])) (done ++ ([] ∷ [])) [] (parsed-comma p done [] h)
+      (all-fails isField done ([] ∷ []) (all-head isField [] [] field-none))
 
 -- ---- a field's first byte
 
@@ -129,15 +188,16 @@ digit-no-comma b h = ne-eqb b comma (λ e. omega (arith, digit-low b h))
 digit-no-cr : (b : ℕ) → isDigit b ≡ true → eqb b cr ≡ false
 digit-no-cr b h = ne-eqb b cr (λ e. omega (arith, digit-low b h))
 
-module _ {text ws : List ℕ} {k f : ℕ} {t : List ℕ} (b : ℕ) where
-  module _ (s : Stands text ws k f Empty (b ∷ t)) where
-    first-digit : (d : ℕ) → isDigit b ≡ true → d ≡ b - 48 → k < mostRecords → Stands text ws k f (Number d) t
+module _ {w limit : ℕ} {text ws : List ℕ} {k f : ℕ} {t : List ℕ} (b : ℕ) where
+  module _ (s : Stands w limit text ws k f Empty (b ∷ t)) where
+    first-digit : (d : ℕ) → isDigit b ≡ true → d ≡ b - 48 → k < limit → Stands w limit text ws k f (Number d) t
     first-digit d h e l = record {
       earlier = s .earlier;
       p = s .p ++ (b ∷ []);
       done = s .done;
       ds = b ∷ [];
-      split = s .split ∙ ap (λ (rs : List (List ℕ)). s .earlier ++ rs) (records-byte (s .p) t b (digit-no-cr b h));
+      split =
+          s .split ∙ ap (λ (rs : List (List ℕ)). s .earlier ++ rs) (records-byte (s .p) t b (digit-no-cr b h));
       sound = s .sound;
       count = s .count;
       most = s .most;
@@ -145,29 +205,39 @@ module _ {text ws : List ℕ} {k f : ℕ} {t : List ℕ} (b : ℕ) where
       right = s .right;
       words = s .words;
       size = s .size;
-      within = (
-        parsed-byte (s .p) (s .done) [] (s .within .0) b (digit-no-comma b h),
-        field-one b h,
-        number-one b ∙ sym e,
-        s .within .1,
-        snoc-some (s .p) b,
-        l,
-      );
+      wide = s .wide;
+      within = record {
+        parsed = parsed-byte (s .p) (s .done) [] (s .within .parsed) b (digit-no-comma b h);
+        right = field-one b h;
+        value = number-one b ∙ sym e;
+        fewer = s .within .fewer;
+        some = snoc-some (s .p) b;
+        counted = l;
+      };
     }
 
-    first-dead : Dead (s .p ++ (b ∷ [])) → isText text ≡ false
-    first-dead h = bad-both text (s .earlier) (s .p) t b (s .split) (empty-record (s .p) (s .done) (s .within .0)) h
+    first-dead : Dead w (s .p ++ (b ∷ [])) → isText w limit text ≡ false
+    first-dead h =
+        bad-both w limit text (s .earlier) (s .p) t b (s .split) (empty-record w (s .p) (s .done) (s .within .parsed)) h
 
-    first-more : mostRecords ≤ k → isText text ≡ false
-    first-more h = bad-more text (s .earlier) (s .p) t b (s .split) (omega (arith, s .count))
+    first-more : limit ≤ k → isText w limit text ≡ false
+    first-more h = bad-more w limit text (s .earlier) (s .p) t b (s .split) (omega (arith, s .count))
 
-    first-other : eqb b comma ≡ false → isDigit b ≡ false → isText text ≡ false
-    first-other c d = first-dead (dead-other (s .p) (s .done) [] (s .within .0) b c d)
+    first-other : eqb b comma ≡ false → isDigit b ≡ false → isText w limit text ≡ false
+    first-other c d = first-dead (dead-other w (s .p) (s .done) [] (s .within .parsed) b c d)
 
-  at-first : Stands text ws k f Empty (b ∷ t) → (byte : Byte) → byteMeans b byte → After text ws t (first k f byte)
+    first-comma : b ≡ comma → isText w limit text ≡ false
+    first-comma e =
+        first-dead
+        (subst (λ (n : ℕ). Dead w (s .p ++ (n ∷ []))) (sym e) (dead-comma w (s .p) (s .done) (s .within .parsed)))
+
+  at-first : Stands w limit text ws k f Empty (b ∷ t) → (byte : Byte) → byteMeans b byte
+      → After w limit text ws t (first limit k f byte)
   at-first s (Digit d) m =
-      cond-ind (After text ws t) (ltb k mostRecords) (λ e. first-digit s d (m .0) (m .1) (ltb-true k mostRecords e)) (λ e. first-more s (ltb-false k mostRecords e))
-  at-first s Comma m = first-dead s (subst (λ (n : ℕ). Dead (s .p ++ (n ∷ []))) (sym m) (dead-comma (s .p) (s .done) (s .within .0)))
+      cond-ind (After w limit text ws t) (ltb k limit)
+      (λ e. first-digit s d (m .0) (m .1) (ltb-true k limit e))
+      (λ e. first-more s (ltb-false k limit e))
+  at-first s Comma m = first-comma s m
   at-first s Cr m = first-other s (rw m) (rw m)
   at-first s Lf m = first-other s (rw m) (rw m)
   at-first s Other m = first-other s (ne-eqb b comma (m .1)) (m .0)
@@ -175,25 +245,40 @@ module _ {text ws : List ℕ} {k f : ℕ} {t : List ℕ} (b : ℕ) where
 -- ---- a byte after digits
 
 -- the digits' word
-words-more : {text ws : List ℕ} {k f v : ℕ} {t : List ℕ} (s : Stands text ws k f (Number v) t)
+words-more : {w limit : ℕ} {text ws : List ℕ} {k f v : ℕ} {t : List ℕ} (s : Stands w limit text ws k f (Number v) t)
     → ws ++ (v ∷ []) ≡ wordsOf (s .earlier) ++ map number (s .done ++ (s .ds ∷ []))
-words-more {text} {ws} {k} {f} {v} s =
-    ap₂ (λ (xs : List ℕ) (n : ℕ). xs ++ (n ∷ [])) (s .words) (sym (s .within .2))
+words-more {ws = ws} {v = v} s =
+    ap₂ (λ (xs : List ℕ) (n : ℕ). xs ++ (n ∷ [])) (s .words) (sym (s .within .value))
     ∙ append-assoc (wordsOf (s .earlier)) (map number (s .done)) (number (s .ds) ∷ [])
     ∙ ap (λ (xs : List ℕ). wordsOf (s .earlier) ++ xs) (sym (map-append number (s .done) (s .ds ∷ [])))
 
-module _ {text ws : List ℕ} {k f v : ℕ} {t : List ℕ} (b : ℕ) where
-  module _ (s : Stands text ws k f (Number v) (b ∷ t)) where
+module _ {w limit : ℕ} {text ws : List ℕ} {k f v : ℕ} {t : List ℕ} (s : Stands w limit text ws k f (Number v) t) where
+  -- the digits are a field of the record
+  several-more : length (s .done ++ (s .ds ∷ [])) ≡ f + 1
+  several-more = length-append (s .done) (s .ds ∷ []) ∙ omega (arith, s .several)
+
+  right-more : allOf isField (s .done ++ (s .ds ∷ [])) ≡ true
+  right-more = all-both isField (s .done) (s .ds ∷ []) (s .right) (all-one isField (s .ds) ∙ s .within .right)
+
+  size-more : length (ws ++ (v ∷ [])) ≡ w * k + (f + 1)
+  size-more = length-append ws (v ∷ []) ∙ omega (arith, s .size)
+
+  room : length ws < w * limit
+  room = omega (arith, s .size, s .within .fewer, row-room w k limit (s .within .counted))
+
+module _ {w limit : ℕ} {text ws : List ℕ} {k f v : ℕ} {t : List ℕ} (b : ℕ) where
+  module _ (s : Stands w limit text ws k f (Number v) (b ∷ t)) where
     later-digit : (d : ℕ) → isDigit b ≡ true → d ≡ b - 48 → (v ≡ 0 → ⊥) → v ≤ (2 ^ 64 - 1 - d) / 10
-        → Stands text ws k f (Number (10 * v + d)) t
+        → Stands w limit text ws k f (Number (10 * v + d)) t
     later-digit d h e z l =
-        let n : number (s .ds) ≡ v = s .within .2 in
+        let n : number (s .ds) ≡ v = s .within .value in
         record {
           earlier = s .earlier;
           p = s .p ++ (b ∷ []);
           done = s .done;
           ds = s .ds ++ (b ∷ []);
-          split = s .split ∙ ap (λ (rs : List (List ℕ)). s .earlier ++ rs) (records-byte (s .p) t b (digit-no-cr b h));
+          split =
+              s .split ∙ ap (λ (rs : List (List ℕ)). s .earlier ++ rs) (records-byte (s .p) t b (digit-no-cr b h));
           sound = s .sound;
           count = s .count;
           most = s .most;
@@ -201,43 +286,33 @@ module _ {text ws : List ℕ} {k f v : ℕ} {t : List ℕ} (b : ℕ) where
           right = s .right;
           words = s .words;
           size = s .size;
-          within = (
-            parsed-byte (s .p) (s .done) (s .ds) (s .within .0) b (digit-no-comma b h),
-            field-more (s .ds) b (s .within .1) (λ q. z (sym n ∙ q)) h (omega arith),
-            number-snoc (s .ds) b ∙ omega arith,
-            s .within .3,
-            snoc-some (s .p) b,
-            s .within .5,
-          );
+          wide = s .wide;
+          within = record {
+            parsed = parsed-byte (s .p) (s .done) (s .ds) (s .within .parsed) b (digit-no-comma b h);
+            right = field-more (s .ds) b (s .within .right) (λ q. z (sym n ∙ q)) h (omega arith);
+            value = number-snoc (s .ds) b ∙ omega arith;
+            fewer = s .within .fewer;
+            some = snoc-some (s .p) b;
+            counted = s .within .counted;
+          };
         }
 
-    later-bad : isDigit b ≡ true → ((q : List ℕ) → isField ((s .ds ++ (b ∷ [])) ++ q) ≡ false) → isText text ≡ false
+    later-bad : isDigit b ≡ true → ((q : List ℕ) → isField ((s .ds ++ (b ∷ [])) ++ q) ≡ false)
+        → isText w limit text ≡ false
     later-bad h g =
-        bad-byte text (s .earlier) (s .p) t b (s .split) (digit-no-cr b h)
-        (dead-field (s .p ++ (b ∷ [])) (s .done) (s .ds ++ (b ∷ [])) (parsed-byte (s .p) (s .done) (s .ds) (s .within .0) b (digit-no-comma b h)) g)
+        bad-byte w limit text (s .earlier) (s .p) t b (s .split) (digit-no-cr b h)
+        (dead-field w (s .p ++ (b ∷ [])) (s .done) (s .ds ++ (b ∷ []))
+        (parsed-byte (s .p) (s .done) (s .ds) (s .within .parsed) b (digit-no-comma b h)) g)
 
-    later-zero : isDigit b ≡ true → v ≡ 0 → isText text ≡ false
-    later-zero h z = later-bad h (field-zero (s .ds) b (s .within .1) (s .within .2 ∙ z))
+    later-zero : isDigit b ≡ true → v ≡ 0 → isText w limit text ≡ false
+    later-zero h z = later-bad h (field-zero (s .ds) b (s .within .right) (s .within .value ∙ z))
 
-    later-large : (d : ℕ) → isDigit b ≡ true → d ≡ b - 48 → (2 ^ 64 - 1 - d) / 10 < v → isText text ≡ false
+    later-large : (d : ℕ) → isDigit b ≡ true → d ≡ b - 48 → (2 ^ 64 - 1 - d) / 10 < v → isText w limit text ≡ false
     later-large d h e l =
-        let n : number (s .ds) ≡ v = s .within .2 in
+        let n : number (s .ds) ≡ v = s .within .value in
         later-bad h (field-large (s .ds ++ (b ∷ [])) (omega (arith, number-snoc (s .ds) b, digit-high b h)))
 
-    -- the digits are a field of the record
-    several-more : length (s .done ++ (s .ds ∷ [])) ≡ f + 1
-    several-more = length-append (s .done) (s .ds ∷ []) ∙ omega (arith, s .several)
-
-    right-more : all isField (s .done ++ (s .ds ∷ [])) ≡ true
-    right-more = all-both isField (s .done) (s .ds ∷ []) (s .right) (all-one isField (s .ds) ∙ s .within .1)
-
-    size-more : length (ws ++ (v ∷ [])) ≡ rowWidth * k + (f + 1)
-    size-more = length-append ws (v ∷ []) ∙ omega (arith, s .size)
-
-    room : length ws < mostWords
-    room = omega (arith, s .size, s .within .3, s .within .5)
-
-    later-comma : b ≡ comma → f + 1 < rowWidth → Stands text (ws ++ (v ∷ [])) k (f + 1) Empty t
+    later-comma : b ≡ comma → f + 1 < w → Stands w limit text (ws ++ (v ∷ [])) k (f + 1) Empty t
     later-comma e l = record {
       earlier = s .earlier;
       p = s .p ++ (comma ∷ []);
@@ -249,25 +324,27 @@ module _ {text ws : List ℕ} {k f v : ℕ} {t : List ℕ} (b : ℕ) where
       sound = s .sound;
       count = s .count;
       most = s .most;
-      several = several-more;
-      right = right-more;
+      several = several-more s;
+      right = right-more s;
       words = words-more s;
-      size = size-more;
-      within = (
-        parsed-comma (s .p) (s .done) (s .ds) (s .within .0),
-        omega arith,
-        λ z. absurd (omega arith),
-        λ z. (snoc-some (s .p) comma, s .within .5),
-      );
+      size = size-more s;
+      wide = s .wide;
+      within = record {
+        parsed = parsed-comma (s .p) (s .done) (s .ds) (s .within .parsed);
+        fewer = l;
+        none = λ z. absurd (omega arith);
+        some = λ z. (snoc-some (s .p) comma, s .within .counted);
+      };
     }
 
-    later-sixth : b ≡ comma → rowWidth ≤ f + 1 → isText text ≡ false
+    later-sixth : b ≡ comma → w ≤ f + 1 → isText w limit text ≡ false
     later-sixth e l =
-        bad-byte text (s .earlier) (s .p) t b (s .split) (rw e)
-        (subst (λ (n : ℕ). Dead (s .p ++ (n ∷ []))) (sym e)
-        (dead-many (s .p ++ (comma ∷ [])) (s .done ++ (s .ds ∷ [])) [] (parsed-comma (s .p) (s .done) (s .ds) (s .within .0)) (omega (arith, several-more))))
+        bad-byte w limit text (s .earlier) (s .p) t b (s .split) (rw e)
+        (subst (λ (n : ℕ). Dead w (s .p ++ (n ∷ []))) (sym e)
+        (dead-many w (s .p ++ (comma ∷ [])) (s .done ++ (s .ds ∷ [])) []
+        (parsed-comma (s .p) (s .done) (s .ds) (s .within .parsed)) (omega (arith, several-more s))))
 
-    later-cr : b ≡ cr → f + 1 ≡ rowWidth → Stands text (ws ++ (v ∷ [])) k (f + 1) Ended t
+    later-cr : b ≡ cr → f + 1 ≡ w → Stands w limit text (ws ++ (v ∷ [])) k (f + 1) Ended t
     later-cr e l = record {
       earlier = s .earlier;
       p = s .p;
@@ -277,51 +354,62 @@ module _ {text ws : List ℕ} {k f v : ℕ} {t : List ℕ} (b : ℕ) where
       sound = s .sound;
       count = s .count;
       most = s .most;
-      several = several-more;
-      right = right-more;
+      several = several-more s;
+      right = right-more s;
       words = words-more s;
-      size = size-more;
-      within = (
-        parsed-fields (s .p) (s .done) (s .ds) (s .within .0),
-        omega arith,
-        dead-other (s .p) (s .done) (s .ds) (s .within .0) cr refl refl,
-        s .within .5,
-      );
+      size = size-more s;
+      wide = s .wide;
+      within = record {
+        parsed = parsed-fields (s .p) (s .done) (s .ds) (s .within .parsed);
+        whole = l;
+        dead = dead-other w (s .p) (s .done) (s .ds) (s .within .parsed) cr refl refl;
+        counted = s .within .counted;
+      };
     }
 
-    later-few : b ≡ cr → (f + 1 ≡ rowWidth → ⊥) → isText text ≡ false
+    later-few : b ≡ cr → (f + 1 ≡ w → ⊥) → isText w limit text ≡ false
     later-few e l =
-        bad-both text (s .earlier) (s .p) t b (s .split)
-        (record-wrong (s .p) (λ g. l (omega (arith, several-more, ap length (parsed-fields (s .p) (s .done) (s .ds) (s .within .0))))))
-        (dead-other (s .p) (s .done) (s .ds) (s .within .0) b (rw e) (rw e))
+        let g : length (fields (s .p)) ≡ f + 1 =
+        ap length (parsed-fields (s .p) (s .done) (s .ds) (s .within .parsed)) ∙ several-more s in
+        bad-both w limit text (s .earlier) (s .p) t b (s .split)
+        (record-wrong w (s .p) (λ h. l (sym g ∙ h)))
+        (dead-other w (s .p) (s .done) (s .ds) (s .within .parsed) b (rw e) (rw e))
 
-    later-other : eqb b cr ≡ false → eqb b comma ≡ false → isDigit b ≡ false → isText text ≡ false
-    later-other r c d = bad-byte text (s .earlier) (s .p) t b (s .split) r (dead-other (s .p) (s .done) (s .ds) (s .within .0) b c d)
+    later-other : eqb b cr ≡ false → eqb b comma ≡ false → isDigit b ≡ false → isText w limit text ≡ false
+    later-other r c d =
+        bad-byte w limit text (s .earlier) (s .p) t b (s .split) r
+        (dead-other w (s .p) (s .done) (s .ds) (s .within .parsed) b c d)
 
-  at-later : Stands text ws k f (Number v) (b ∷ t) → (byte : Byte) → byteMeans b byte → After text ws t (later k f v byte)
+  at-later : Stands w limit text ws k f (Number v) (b ∷ t) → (byte : Byte) → byteMeans b byte
+      → After w limit text ws t (later w k f v byte)
   at-later s (Digit d) m =
-      cond-ind (After text ws t) (eqb v 0)
+      cond-ind (After w limit text ws t) (eqb v 0)
       (λ z. later-zero s (m .0) (eqb-true v 0 z))
-      (λ z. cond-ind (After text ws t) (leb v ((2 ^ 64 - 1 - d) / 10))
+      (λ z. cond-ind (After w limit text ws t) (leb v ((2 ^ 64 - 1 - d) / 10))
       (λ l. later-digit s d (m .0) (m .1) (eqb-false v 0 z) (leb-true v ((2 ^ 64 - 1 - d) / 10) l))
       (λ l. later-large s d (m .0) (m .1) (leb-false v ((2 ^ 64 - 1 - d) / 10) l)))
   at-later s Comma m =
-      cond-ind (After text ws t) (ltb (f + 1) rowWidth) (λ e. (room s, later-comma s m (ltb-true (f + 1) rowWidth e))) (λ e. later-sixth s m (ltb-false (f + 1) rowWidth e))
+      cond-ind (After w limit text ws t) (ltb (f + 1) w)
+      (λ e. (room s, later-comma s m (ltb-true (f + 1) w e)))
+      (λ e. later-sixth s m (ltb-false (f + 1) w e))
   at-later s Cr m =
-      cond-ind (After text ws t) (eqb (f + 1) rowWidth) (λ e. (room s, later-cr s m (eqb-true (f + 1) rowWidth e))) (λ e. later-few s m (eqb-false (f + 1) rowWidth e))
+      cond-ind (After w limit text ws t) (eqb (f + 1) w)
+      (λ e. (room s, later-cr s m (eqb-true (f + 1) w e)))
+      (λ e. later-few s m (eqb-false (f + 1) w e))
   at-later s Lf m = later-other s (rw m) (rw m) (rw m)
   at-later s Other m = later-other s (ne-eqb b cr (m .2)) (ne-eqb b comma (m .1)) (m .0)
 
 -- ---- the byte after CR
 
-module _ {text ws : List ℕ} {k f : ℕ} {t : List ℕ} (b : ℕ) where
-  module _ (s : Stands text ws k f Ended (b ∷ t)) where
-    ended-record : isRecord (s .p) ≡ true
+module _ {w limit : ℕ} {text ws : List ℕ} {k f : ℕ} {t : List ℕ} (b : ℕ) where
+  module _ (s : Stands w limit text ws k f Ended (b ∷ t)) where
+    ended-record : isRecord w (s .p) ≡ true
     ended-record =
-        record-made (s .p) (ap length (s .within .0) ∙ s .several ∙ s .within .1) (ap (all isField) (s .within .0) ∙ s .right)
+        record-made w (s .p) (ap length (s .within .parsed) ∙ s .several ∙ s .within .whole)
+        (ap (allOf isField) (s .within .parsed) ∙ s .right)
 
-    ended-line : b ≡ lf → Stands text ws (k + 1) 0 Empty t
-    unfolding all
+    ended-line : b ≡ lf → Stands w limit text ws (k + 1) 0 Empty t
+    unfolding allOf
     ended-line e = record {
       earlier = s .earlier ++ (s .p ∷ []);
       p = [];
@@ -329,26 +417,30 @@ module _ {text ws : List ℕ} {k f : ℕ} {t : List ℕ} (b : ℕ) where
       ds = [];
       split =
           s .split ∙ ap (λ (n : ℕ). s .earlier ++ recordsFrom (s .p) (cr ∷ n ∷ t)) e
-          ∙ ap (λ (rs : List (List ℕ)). s .earlier ++ rs) (records-line (s .p) t) ∙ sym (append-assoc (s .earlier) (s .p ∷ []) (recordsFrom [] t));
-      sound = all-both isRecord (s .earlier) (s .p ∷ []) (s .sound) (all-one isRecord (s .p) ∙ ended-record);
+          ∙ ap (λ (rs : List (List ℕ)). s .earlier ++ rs) (records-line (s .p) t)
+          ∙ sym (append-assoc (s .earlier) (s .p ∷ []) (recordsFrom [] t));
+      sound =
+          all-both (isRecord w) (s .earlier) (s .p ∷ []) (s .sound) (all-one (isRecord w) (s .p) ∙ ended-record);
       count = length-append (s .earlier) (s .p ∷ []) ∙ omega (arith, s .count);
-      most = omega (arith, s .within .3);
+      most = omega (arith, s .within .counted);
       several = refl;
       right = refl;
       words =
-          s .words ∙ ap (λ (fs : List (List ℕ)). wordsOf (s .earlier) ++ map number fs) (sym (s .within .0)) ∙ sym (words-snoc (s .earlier) (s .p))
-          ∙ sym (append-nil (wordsOf (s .earlier ++ (s .p ∷ []))));
-      size = s .size ∙ omega (arith, s .within .1);
-      within = (parsed-none, omega arith, λ z. refl, λ z. absurd (z refl));
+          s .words ∙ ap (λ (fs : List (List ℕ)). wordsOf (s .earlier) ++ map number fs) (sym (s .within .parsed))
+          ∙ sym (words-snoc (s .earlier) (s .p)) ∙ sym (append-nil (wordsOf (s .earlier ++ (s .p ∷ []))));
+      size = s .size ∙ omega (arith, s .within .whole, row-next w k);
+      wide = s .wide;
+      within = record { parsed = parsed-none; fewer = s .wide; none = λ z. refl; some = λ z. absurd (z refl) };
     }
 
-    ended-bad : eqb b lf ≡ false → isText text ≡ false
+    ended-bad : eqb b lf ≡ false → isText w limit text ≡ false
     ended-bad n =
-        text-bad text
-        (ap (all isRecord) (s .split) ∙ all-fails isRecord (s .earlier) (recordsFrom (s .p) (cr ∷ b ∷ t))
-        (ap (all isRecord) (records-cr (s .p) t b n) ∙ records-dead (s .p ++ (cr ∷ [])) (b ∷ t) (snoc-some (s .p) cr) (s .within .2)))
+        no-text w limit text (s .earlier) (s .p) (b ∷ t) cr (s .split)
+        (ap (allOf (isRecord w)) (records-cr (s .p) t b n)
+        ∙ records-dead w (s .p ++ (cr ∷ [])) (b ∷ t) (snoc-some (s .p) cr) (s .within .dead))
 
-  at-ended : Stands text ws k f Ended (b ∷ t) → (byte : Byte) → byteMeans b byte → After text ws t (ended k byte)
+  at-ended : Stands w limit text ws k f Ended (b ∷ t) → (byte : Byte) → byteMeans b byte
+      → After w limit text ws t (ended k byte)
   at-ended s (Digit d) m = ended-bad s (ne-eqb b lf (λ e. omega (arith, digit-low b (m .0))))
   at-ended s Comma m = ended-bad s (rw m)
   at-ended s Cr m = ended-bad s (rw m)
@@ -356,35 +448,40 @@ module _ {text ws : List ℕ} {k f : ℕ} {t : List ℕ} (b : ℕ) where
   at-ended s Other m = ended-bad s (ne-eqb b lf (m .3))
 
 -- a byte, wherever the reader stands
-pub stands-next : {text ws : List ℕ} {k f : ℕ} {field : Field} {t : List ℕ} (b : ℕ) → Stands text ws k f field (b ∷ t) → (byte : Byte) → byteMeans b byte
-    → After text ws t (stepIn k f field byte)
+pub stands-next : {w limit : ℕ} {text ws : List ℕ} {k f : ℕ} {field : Field} {t : List ℕ} (b : ℕ)
+    → Stands w limit text ws k f field (b ∷ t) → (byte : Byte) → byteMeans b byte
+    → After w limit text ws t (stepIn w limit k f field byte)
 stands-next {field = Empty} b s byte m = at-first b s byte m
 stands-next {field = Number v} b s byte m = at-later b s byte m
 stands-next {field = Ended} b s byte m = at-ended b s byte m
 
 -- ---- the end of the text
 
-pub record Whole (text ws : List ℕ) (n : ℕ) : Type 0 where
-  pub good : isText text ≡ true
-  pub count : n ≡ length (records text)
+pub record Whole (w limit : ℕ) (text ws : List ℕ) (r : ℕ) : Type 0 where
+  pub good : isText w limit text ≡ true
+  pub count : r ≡ length (records text)
   pub words : textWords text ≡ ws
-  pub size : length ws ≡ rowWidth * n
+  pub size : length ws ≡ w * r
 
-abbrev pub AtEnd : List ℕ → List ℕ → Last → Type 0
-AtEnd text ws (Records n) = Whole text ws n
-AtEnd text ws (LastWord v n) = (length ws < mostWords) × Whole text (ws ++ (v ∷ [])) n
-AtEnd text ws BadEnd = isText text ≡ false
+abbrev pub AtEnd : ℕ → ℕ → List ℕ → List ℕ → Last → Type 0
+AtEnd w limit text ws (Records r) = Whole w limit text ws r
+AtEnd w limit text ws (LastWord v r) = (length ws < w * limit) × Whole w limit text (ws ++ (v ∷ [])) r
+AtEnd w limit text ws BadEnd = isText w limit text ≡ false
 
-module _ {text ws : List ℕ} {k f : ℕ} where
-  empty-all : Stands text ws k f Empty [] → f ≡ 0 → Whole text ws k
+module _ {w limit : ℕ} {text ws : List ℕ} {k f : ℕ} where
+  empty-all : Stands w limit text ws k f Empty [] → f ≡ 0 → Whole w limit text ws k
   unfolding recordsFrom
   empty-all s z =
-      let e : records text ≡ s .earlier = s .split ∙ ap (λ (q : List ℕ). s .earlier ++ recordsFrom q []) (s .within .2 z) ∙ append-nil (s .earlier) in
+      let e : records text ≡ s .earlier =
+      s .split ∙ ap (λ (q : List ℕ). s .earlier ++ recordsFrom q []) (s .within .none z) ∙ append-nil (s .earlier) in
       let n : s .done ≡ [] = none (s .done) (s .several ∙ z) in
       record {
-        good = text-good text (omega (arith, ap length e, s .count, s .most)) (ap (all isRecord) e ∙ s .sound);
+        good =
+            text-good w limit text (omega (arith, ap length e, s .count, s .most)) (ap (allOf (isRecord w)) e ∙ s .sound);
         count = omega (arith, ap length e, s .count);
-        words = words-text text (s .earlier) e ∙ sym (append-nil (wordsOf (s .earlier))) ∙ ap (λ (fs : List (List ℕ)). wordsOf (s .earlier) ++ map number fs) (sym n) ∙ sym (s .words);
+        words =
+            words-text text (s .earlier) e ∙ sym (append-nil (wordsOf (s .earlier)))
+            ∙ ap (λ (fs : List (List ℕ)). wordsOf (s .earlier) ++ map number fs) (sym n) ∙ sym (s .words);
         size = omega (arith, s .size);
       }
     where
@@ -392,57 +489,60 @@ module _ {text ws : List ℕ} {k f : ℕ} where
       none [] h = refl
       none (x ∷ fs) h = absurd (omega arith)
 
-  empty-bad : Stands text ws k f Empty [] → (f ≡ 0 → ⊥) → isText text ≡ false
+  empty-bad : Stands w limit text ws k f Empty [] → (f ≡ 0 → ⊥) → isText w limit text ≡ false
   empty-bad s z =
-      text-bad text
-      (ap (all isRecord) (s .split) ∙ all-fails isRecord (s .earlier) (recordsFrom (s .p) [])
-      (ap (all isRecord) (records-end (s .p) (s .within .3 z .0)) ∙ all-head isRecord (s .p) [] (empty-record (s .p) (s .done) (s .within .0))))
+      text-bad w limit text
+      (ap (allOf (isRecord w)) (s .split) ∙ all-fails (isRecord w) (s .earlier) (recordsFrom (s .p) [])
+      (ap (allOf (isRecord w)) (records-end (s .p) (s .within .some z .0))
+      ∙ all-head (isRecord w) (s .p) [] (empty-record w (s .p) (s .done) (s .within .parsed))))
 
-  module _ {v : ℕ} (s : Stands text ws k f (Number v) []) where
+  module _ {v : ℕ} (s : Stands w limit text ws k f (Number v) []) where
     last-split : records text ≡ s .earlier ++ (s .p ∷ [])
-    last-split = s .split ∙ ap (λ (rs : List (List ℕ)). s .earlier ++ rs) (records-end (s .p) (s .within .4))
+    last-split = s .split ∙ ap (λ (rs : List (List ℕ)). s .earlier ++ rs) (records-end (s .p) (s .within .some))
 
     last-fields : fields (s .p) ≡ s .done ++ (s .ds ∷ [])
-    last-fields = parsed-fields (s .p) (s .done) (s .ds) (s .within .0)
+    last-fields = parsed-fields (s .p) (s .done) (s .ds) (s .within .parsed)
 
     last-count : length (fields (s .p)) ≡ f + 1
-    last-count = ap length last-fields ∙ length-append (s .done) (s .ds ∷ []) ∙ omega (arith, s .several)
+    last-count = ap length last-fields ∙ several-more s
 
-    last-right : all isField (fields (s .p)) ≡ true
-    last-right = ap (all isField) last-fields ∙ all-both isField (s .done) (s .ds ∷ []) (s .right) (all-one isField (s .ds) ∙ s .within .1)
-
-    last-whole : f + 1 ≡ rowWidth → Whole text (ws ++ (v ∷ [])) (k + 1)
+    last-whole : f + 1 ≡ w → Whole w limit text (ws ++ (v ∷ [])) (k + 1)
     last-whole e =
-        let l : length (records text) ≡ k + 1 = ap length last-split ∙ length-append (s .earlier) (s .p ∷ []) ∙ omega (arith, s .count) in
-        let g : isRecord (s .p) ≡ true = record-made (s .p) (last-count ∙ omega arith) last-right in
+        let l : length (records text) ≡ k + 1 =
+        ap length last-split ∙ length-append (s .earlier) (s .p ∷ []) ∙ omega (arith, s .count) in
+        let g : isRecord w (s .p) ≡ true =
+        record-made w (s .p) (last-count ∙ e) (ap (allOf isField) last-fields ∙ right-more s) in
         record {
           good =
-              text-good text (omega (arith, l, s .within .5))
-              (ap (all isRecord) last-split ∙ all-both isRecord (s .earlier) (s .p ∷ []) (s .sound) (all-one isRecord (s .p) ∙ g));
+              text-good w limit text (omega (arith, l, s .within .counted))
+              (ap (allOf (isRecord w)) last-split
+              ∙ all-both (isRecord w) (s .earlier) (s .p ∷ []) (s .sound) (all-one (isRecord w) (s .p) ∙ g));
           count = sym l;
           words =
               words-text text (s .earlier ++ (s .p ∷ [])) last-split ∙ words-snoc (s .earlier) (s .p)
               ∙ ap (λ (fs : List (List ℕ)). wordsOf (s .earlier) ++ map number fs) last-fields ∙ sym (words-more s);
-          size = length-append ws (v ∷ []) ∙ omega (arith, s .size);
+          size = size-more s ∙ omega (arith, row-next w k);
         }
 
-    last-bad : (f + 1 ≡ rowWidth → ⊥) → isText text ≡ false
+    last-bad : (f + 1 ≡ w → ⊥) → isText w limit text ≡ false
     last-bad z =
-        text-bad text
-        (ap (all isRecord) last-split ∙ all-fails isRecord (s .earlier) (s .p ∷ [])
-        (all-head isRecord (s .p) [] (record-wrong (s .p) (λ g. z (omega (arith, last-count))))))
+        text-bad w limit text
+        (ap (allOf (isRecord w)) last-split ∙ all-fails (isRecord w) (s .earlier) (s .p ∷ [])
+        (all-head (isRecord w) (s .p) [] (record-wrong w (s .p) (λ g. z (sym last-count ∙ g)))))
 
-  ended-end : Stands text ws k f Ended [] → isText text ≡ false
+  ended-end : Stands w limit text ws k f Ended [] → isText w limit text ≡ false
   ended-end s =
-      text-bad text
-      (ap (all isRecord) (s .split) ∙ all-fails isRecord (s .earlier) (recordsFrom (s .p) (cr ∷ []))
-      (ap (all isRecord) (records-cr-end (s .p)) ∙ all-head isRecord (s .p ++ (cr ∷ [])) [] (ap isRecord (sym (append-nil (s .p ++ (cr ∷ [])))) ∙ s .within .2 [])))
+      text-bad w limit text
+      (ap (allOf (isRecord w)) (s .split) ∙ all-fails (isRecord w) (s .earlier) (recordsFrom (s .p) (cr ∷ []))
+      (ap (allOf (isRecord w)) (records-cr-end (s .p))
+      ∙ all-head (isRecord w) (s .p ++ (cr ∷ [])) [] (dead-now w (s .p ++ (cr ∷ [])) (s .within .dead))))
 
-pub stands-last : {text ws : List ℕ} {k f : ℕ} {field : Field} → Stands text ws k f field [] → AtEnd text ws (lastIn k f field)
-stands-last {text} {ws} {k} {f} {field = Empty} s =
-    cond-ind (AtEnd text ws) (eqb f 0) (λ e. empty-all s (eqb-true f 0 e)) (λ e. empty-bad s (eqb-false f 0 e))
-stands-last {text} {ws} {k} {f} {field = Number v} s =
-    cond-ind (AtEnd text ws) (eqb (f + 1) rowWidth)
-    (λ e. (omega (arith, s .size, s .within .3, s .within .5), last-whole s (eqb-true (f + 1) rowWidth e)))
-    (λ e. last-bad s (eqb-false (f + 1) rowWidth e))
+pub stands-last : {w limit : ℕ} {text ws : List ℕ} {k f : ℕ} {field : Field} → Stands w limit text ws k f field []
+    → AtEnd w limit text ws (lastIn w k f field)
+stands-last {w} {limit} {text} {ws} {k} {f} {field = Empty} s =
+    cond-ind (AtEnd w limit text ws) (eqb f 0) (λ e. empty-all s (eqb-true f 0 e)) (λ e. empty-bad s (eqb-false f 0 e))
+stands-last {w} {limit} {text} {ws} {k} {f} {field = Number v} s =
+    cond-ind (AtEnd w limit text ws) (eqb (f + 1) w)
+    (λ e. (room s, last-whole s (eqb-true (f + 1) w e)))
+    (λ e. last-bad s (eqb-false (f + 1) w e))
 stands-last {field = Ended} s = ended-end s

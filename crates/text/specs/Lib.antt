@@ -1,4 +1,2 @@
-pub mod Byte
-pub mod Place
+pub mod Inner
 pub mod Post
-pub mod Written

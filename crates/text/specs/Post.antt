@@ -12,21 +12,21 @@ use Rattle.text.specs.declared.Scan.the-variants.{Records, Bad}
 use Rattle.text.specs.declared.TextRead.{TextRead}
 use Rattle.text.specs.declared.TextRead.the-variants.{Records as Gives, Refused}
 
--- the words of the longest text
+-- the words of a task's longest text
 abbrev pub mostWords : ℕ
 mostWords = rowWidth * mostRecords
 
--- the words of a text
-pub record Found (text out : List ℕ) (n : ℕ) : Type 0 where
-  pub good : isText text ≡ true
-  pub count : n ≡ length (records text)
-  pub room : rowWidth * n ≤ length out
-  pub words : textWords text ≡ take (rowWidth * n) out
+-- a text of at most n records of w fields: r records, and their words at the front of the slice
+pub record Found (w n : ℕ) (text out : List ℕ) (r : ℕ) : Type 0 where
+  pub good : isText w n text ≡ true
+  pub count : r ≡ length (records text)
+  pub room : w * r ≤ length out
+  pub words : textWords text ≡ take (w * r) out
 
 -- the text has so many records, and its words stand at the front of the slice; or it is none
-abbrev pub scanMeans : List ℕ → List ℕ → Scan → Type 0
-scanMeans text out (Records n) = Found text out n
-scanMeans text out Bad = isText text ≡ false
+abbrev pub scanMeans : ℕ → ℕ → List ℕ → List ℕ → Scan → Type 0
+scanMeans w n text out (Records r) = Found w n text out r
+scanMeans w n text out Bad = isText w n text ≡ false
 
 -- the paper's value of an answer
 abbrev pub answerOf : TextRead → Answer ℕ

@@ -1,10 +1,11 @@
-// The text reader: bytes in, the words of a task out.
+// The text reader: bytes in, words out. The reader of records goes by the fields of a record, `width`,
+// and the most records; the text reader is its instance for a task's rows.
 ghost use mathlib.Core.Path.{_≡_};
-ghost use Prim.Native.Nat.{_≤_};
+ghost use Prim.Native.Nat.{_-_, _*_, _^_, _≤_, _<_};
 ghost use lib.ListN.{length};
-ghost use Rattle.text.specs.Byte.{byteMeans};
-ghost use Rattle.text.specs.Place.{at, InReach, stepOf, lastOf};
-ghost use Rattle.text.specs.Post.{mostWords, scanMeans, reading};
+ghost use Rattle.text.specs.Inner.Byte.{byteMeans};
+ghost use Rattle.text.specs.Inner.Place.{at, InReach, stepOf, lastOf};
+ghost use Rattle.text.specs.Post.{scanMeans, reading};
 ghost use Rattle.semantics.specs.Base.{zeroed};
 ghost use Rattle.semantics.specs.Text.{readText};
 
@@ -27,7 +28,8 @@ pub enum Byte {
     Other,
 }
 
-// What was read of the present field: nothing, or digits that write a number; or the record's fields are all read, and CR.
+// What was read of the present field: nothing, or digits that write a number; or the record's
+// fields are all read, and CR.
 pub enum Field {
     Empty,
     Number(u64),
@@ -48,7 +50,8 @@ pub enum Next {
     Bad,
 }
 
-// What the end of the text leads to: the number of records, with or without a word that is read there; or the text is none.
+// What the end of the text leads to: the number of records, with or without a word that is read
+// there; or the text is none.
 pub enum Last {
     Records(usize),
     Word(u64, usize),
@@ -68,7 +71,7 @@ pub enum TextRead {
 }
 
 // The byte reader.
-fn sort(b: u8) -> Byte
+pub fn sort(b: u8) -> Byte
     ensures { λ r. ⌜ byteMeans b r ⌝ }
 {
     match b {
@@ -84,19 +87,17 @@ fn sort(b: u8) -> Byte
 }
 
 // The record reader: what the byte b leads to from the place p.
-fn step(p: Place, b: Byte) -> Next
-    requires { ⌜ InReach p ⌝ }
-    ensures { λ r. ⌜ r ≡ stepOf p b ⌝ }
+pub fn step(p: Place, b: Byte, width: usize, most: usize) -> Next
+    requires { ⌜ InReach width most p ⌝ }
+    ensures { λ r. ⌜ r ≡ stepOf width most p b ⌝ }
 {
     let records = p.records;
     let fields = p.fields;
     let field = p.field;
-    let next_record = records + 1;
-    let next_field = fields + 1;
     match field {
         Field::Empty => match b {
             Byte::Digit(d) => {
-                if records < MOST_RECORDS {
+                if records < most {
                     Next::On(Place {
                         records,
                         fields,
@@ -125,7 +126,8 @@ fn step(p: Place, b: Byte) -> Next
                 }
             }
             Byte::Comma => {
-                if next_field < ROW {
+                let next_field = fields + 1;
+                if next_field < width {
                     Next::Word(
                         v,
                         Place {
@@ -139,7 +141,8 @@ fn step(p: Place, b: Byte) -> Next
                 }
             }
             Byte::Cr => {
-                if next_field == ROW {
+                let next_field = fields + 1;
+                if next_field == width {
                     Next::Word(
                         v,
                         Place {
@@ -156,26 +159,27 @@ fn step(p: Place, b: Byte) -> Next
             Byte::Other => Next::Bad,
         },
         Field::Ended => match b {
-            Byte::Lf => Next::On(Place {
-                records: next_record,
-                fields: 0,
-                field: Field::Empty,
-            }),
+            Byte::Lf => {
+                let next_record = records + 1;
+                Next::On(Place {
+                    records: next_record,
+                    fields: 0,
+                    field: Field::Empty,
+                })
+            }
             _ => Next::Bad,
         },
     }
 }
 
 // What the end of the text leads to from the place p.
-fn at_end(p: Place) -> Last
-    requires { ⌜ InReach p ⌝ }
-    ensures { λ r. ⌜ r ≡ lastOf p ⌝ }
+pub fn at_end(p: Place, width: usize) -> Last
+    requires { ⌜ InReach width (2 ^ 64 - 1) p ⌝ }
+    ensures { λ r. ⌜ r ≡ lastOf width p ⌝ }
 {
     let records = p.records;
     let fields = p.fields;
     let field = p.field;
-    let next_record = records + 1;
-    let next_field = fields + 1;
     match field {
         Field::Empty => {
             if fields == 0 {
@@ -185,7 +189,9 @@ fn at_end(p: Place) -> Last
             }
         }
         Field::Number(v) => {
-            if next_field == ROW {
+            let next_field = fields + 1;
+            if next_field == width {
+                let next_record = records + 1;
                 Last::Word(v, next_record)
             } else {
                 Last::Bad
@@ -196,7 +202,7 @@ fn at_end(p: Place) -> Last
 }
 
 // The place before the first byte.
-fn start() -> Place
+pub fn start() -> Place
     ensures { λ r. ⌜ r ≡ at 0 0 Field.Empty ⌝ }
 {
     Place {
@@ -206,16 +212,18 @@ fn start() -> Place
     }
 }
 
-// The words of the text go to the front of the slice, which is as long as any text asks.
-fn scan_text(text: &[u8], words: &mut [u64]) -> Scan
-    requires { ⌜ mostWords ≤ length (now words) ⌝ }
-    ensures { λ r. ⌜ scanMeans (now (text .entry)) (now (words .exit)) r ⌝ }
+// The reader of records: the words of the text go to the front of the slice, which is as long as the
+// most records ask.
+pub fn scan_text(text: &[u8], words: &mut [u64], width: usize, most: usize) -> Scan
+    requires { ⌜ 0 < width ⌝ }
+    requires { ⌜ width * most ≤ length (now words) ⌝ }
+    ensures { λ r. ⌜ scanMeans width most (now (text .entry)) (now (words .exit)) r ⌝ }
 {
     let mut place = start();
     let mut count = 0;
     let mut i = 0;
     while i < text.len() {
-        let next = step(place, sort(text[i]));
+        let next = step(place, sort(text[i]), width, most);
         i += 1;
         match next {
             Next::On(p) => {
@@ -231,7 +239,7 @@ fn scan_text(text: &[u8], words: &mut [u64]) -> Scan
             }
         }
     }
-    let end = at_end(place);
+    let end = at_end(place, width);
     match end {
         Last::Records(n) => Scan::Records(n),
         Last::Word(v, n) => {
@@ -246,24 +254,25 @@ fn scan_text(text: &[u8], words: &mut [u64]) -> Scan
 fn refuse(words: &mut [u64], refusal: u64) -> TextRead
     ensures { λ r. ⌜ (r ≡ TextRead.Refused refusal) × (now (words .exit) ≡ zeroed (now (words .entry))) ⌝ }
 {
-    table::clear(words, 0);
+    rows::clear(words, 0);
     TextRead::Refused(refusal)
 }
 
-// The text reader: the text's words go to the front of the slice, zeros after them, and the answer is the number of records; or a refusal.
+// The text reader: the text's words go to the front of the slice, zeros after them, and the answer is
+// the number of records; or a refusal.
 pub fn read(text: &[u8], words: &mut [u64]) -> TextRead
     ensures { λ r. ⌜ reading r (now (words .exit)) ≡ readText (now (text .entry)) (now (words .entry)) ⌝ }
 {
     if words.len() < MOST_WORDS {
         return TextRead::Refused(14);
     }
-    let scan = scan_text(text, words);
+    let scan = scan_text(text, words, ROW, MOST_RECORDS);
     match scan {
         Scan::Records(n) => {
             let end = ROW * n;
             let refusal = task::check(&words[..end]);
             if refusal == 0 {
-                table::clear(words, end);
+                rows::clear(words, end);
                 TextRead::Records(n)
             } else {
                 refuse(words, refusal)

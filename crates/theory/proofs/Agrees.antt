@@ -2,6 +2,7 @@
 pub mod Joint
 pub mod Outcome
 pub mod Pick
+pub mod Setting
 pub mod Solo
 pub mod Step
 pub mod Worlds

@@ -1,6 +1,7 @@
--- Demand 2: step, solo replay, joint replay and solo search agree with the model.
+-- Demand 2: step, solo replay, joint replay, a pick on a run and solo search agree with the model.
 use Rattle.semantics.specs.Demands.{Demand2}
 use Rattle.theory.proofs.Agrees.Joint.{joint-replay-agrees}
+use Rattle.theory.proofs.Agrees.Pick.{pick-agrees, pick-fits}
 use Rattle.theory.proofs.Agrees.Solo.{solo-replay-agrees}
 use Rattle.theory.proofs.Agrees.Step.{step-agrees}
 use Rattle.theory.proofs.SoloSearch.{solo-search-agrees}
@@ -11,5 +12,7 @@ demand2 =
       stepAgrees = step-agrees;
       soloReplayAgrees = solo-replay-agrees;
       jointReplayAgrees = joint-replay-agrees;
+      pickAgrees = pick-agrees;
+      pickAnswers = λ t plans ends r r′ i. pick-fits t plans ends r i r′;
       soloSearchAgrees = solo-search-agrees;
     }

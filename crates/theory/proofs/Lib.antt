@@ -3,7 +3,10 @@ pub mod Agrees
 pub mod Complete
 pub mod Demand2
 pub mod Demand3
+pub mod Dispatch
 pub mod Faults
+pub mod Told
+pub mod Laid
 pub mod Listing
 pub mod Lists
 pub mod Live
@@ -14,8 +17,10 @@ pub mod Plans
 pub mod Refusals
 pub mod Robust
 pub mod Rows
+pub mod Sequence
 pub mod SoloSearch
 pub mod Walks
 pub mod Sound
 pub mod Verdict
+pub mod VerdictSearch
 pub mod Waiting

@@ -1,16 +1,16 @@
 -- Laws of Base: tests, and membership in the lists that tests and ranges make.
-use mathlib.Core.Path.{_≡_, refl, sym, ap, _∙_}
+use mathlib.Core.Path.{_≡_, refl, sym, ap, subst, _∙_}
 use mathlib.Core.Bool.{Bool, true, false, cond, _&&_, _||_, true≢false, false≢true}
 use mathlib.Core.Logic.{_⊎_, inl, inr, ⊎-elim}
-use mathlib.Core.List.{List, [], _∷_, _++_, map}
-use mathlib.Core.List.{List·Memᴰ, List·Memᴰ·head, List·Memᴰ·tail, List·Memᴰ·not-nil, List·Memᴰ·cases-cons, Memᴰ·cast}
+use mathlib.Core.List.{List, [], _∷_, _++_, map, flatten}
+use mathlib.Core.List.{List·Memᴰ, List·Memᴰ·head, List·Memᴰ·tail, List·Memᴰ·not-nil, List·Memᴰ·cases-cons, Memᴰ·cast, Memᴰ·append-left, Memᴰ·append-right}
 use Prim.Native.Nat.{ℕ, zero, suc, _+_, _≤_, _<_}
 use native.Mathlib.Nat.{not-suc-le-zero, le-of-suc-le-suc}
 use native.Mathlib.Omega.{arith}
 use lib.ListN.{length, getD}
 use lib.Dec.{ltb}
 use borrow.Author.Tests.{ltb-true, ltb-false, lt-ltb}
-use Rattle.semantics.specs.Base.{range, upTo, any, all, collect, filter}
+use Rattle.semantics.specs.Base.{numbersFrom, upTo, anyOf, allOf, collect, keep}
 
 -- ---- tests
 
@@ -88,39 +88,39 @@ module _ {A : Type 0} where
   mem-index d (List·Memᴰ·tail m) = let r = mem-index d m in (suc (r .0), omega arith, r .2)
 
   module _ (p : A → Bool) where
-    pub any-true : (xs : List A) → any p xs ≡ true → (x : A) × List·Memᴰ x xs × (p x ≡ true)
-    unfolding any
+    pub any-true : (xs : List A) → anyOf p xs ≡ true → (x : A) × List·Memᴰ x xs × (p x ≡ true)
+    unfolding anyOf
     any-true [] h = absurd (false≢true h)
     any-true (x ∷ xs) h =
         ⊎-elim
         (λ t. (x, List·Memᴰ·head refl, t))
         (λ t. let r = any-true xs t in (r .0, List·Memᴰ·tail (r .1), r .2))
-        (or-elim (p x) (any p xs) h)
+        (or-elim (p x) (anyOf p xs) h)
 
-    pub true-any : {x : A} {xs : List A} → List·Memᴰ x xs → p x ≡ true → any p xs ≡ true
-    unfolding any
-    true-any (List·Memᴰ·head {x = y} {xs = ys} e) t = or-left (p y) (any p ys) (ap p (sym e) ∙ t)
-    true-any (List·Memᴰ·tail {x = y} {xs = ys} m) t = or-right (p y) (any p ys) (true-any m t)
+    pub true-any : {x : A} {xs : List A} → List·Memᴰ x xs → p x ≡ true → anyOf p xs ≡ true
+    unfolding anyOf
+    true-any (List·Memᴰ·head {x = y} {xs = ys} e) t = or-left (p y) (anyOf p ys) (ap p (sym e) ∙ t)
+    true-any (List·Memᴰ·tail {x = y} {xs = ys} m) t = or-right (p y) (anyOf p ys) (true-any m t)
 
-    pub any-false : {x : A} {xs : List A} → any p xs ≡ false → List·Memᴰ x xs → p x ≡ false
+    pub any-false : {x : A} {xs : List A} → anyOf p xs ≡ false → List·Memᴰ x xs → p x ≡ false
     any-false {x} h m = not-true-false (p x) (λ t. true-not-false (true-any m t) h)
 
-    pub false-any : (xs : List A) → ((x : A) → List·Memᴰ x xs → p x ≡ false) → any p xs ≡ false
-    false-any xs h = not-true-false (any p xs) (λ t. let r = any-true xs t in true-not-false (r .2) (h (r .0) (r .1)))
+    pub false-any : (xs : List A) → ((x : A) → List·Memᴰ x xs → p x ≡ false) → anyOf p xs ≡ false
+    false-any xs h = not-true-false (anyOf p xs) (λ t. let r = any-true xs t in true-not-false (r .2) (h (r .0) (r .1)))
 
-    pub all-true : {x : A} {xs : List A} → all p xs ≡ true → List·Memᴰ x xs → p x ≡ true
-    unfolding all
-    all-true h (List·Memᴰ·head {x = y} {xs = ys} e) = ap p e ∙ and-elim (p y) (all p ys) h .0
-    all-true h (List·Memᴰ·tail {x = y} {xs = ys} m) = all-true (and-elim (p y) (all p ys) h .1) m
+    pub all-true : {x : A} {xs : List A} → allOf p xs ≡ true → List·Memᴰ x xs → p x ≡ true
+    unfolding allOf
+    all-true h (List·Memᴰ·head {x = y} {xs = ys} e) = ap p e ∙ and-elim (p y) (allOf p ys) h .0
+    all-true h (List·Memᴰ·tail {x = y} {xs = ys} m) = all-true (and-elim (p y) (allOf p ys) h .1) m
 
-    pub true-all : (xs : List A) → ((x : A) → List·Memᴰ x xs → p x ≡ true) → all p xs ≡ true
-    unfolding all
+    pub true-all : (xs : List A) → ((x : A) → List·Memᴰ x xs → p x ≡ true) → allOf p xs ≡ true
+    unfolding allOf
     true-all [] h = refl
     true-all (x ∷ xs) h = and-intro (h x (List·Memᴰ·head refl)) (true-all xs (λ y m. h y (List·Memᴰ·tail m)))
 
     -- a list of which not all pass the test has one that does not
-    pub all-false : (xs : List A) → all p xs ≡ false → (x : A) × List·Memᴰ x xs × (p x ≡ false)
-    unfolding all
+    pub all-false : (xs : List A) → allOf p xs ≡ false → (x : A) × List·Memᴰ x xs × (p x ≡ false)
+    unfolding allOf
     all-false [] h = absurd (true≢false h)
     all-false (x ∷ xs) h =
         ⊎-elim
@@ -128,8 +128,8 @@ module _ {A : Type 0} where
         (λ f. (x, List·Memᴰ·head refl, f))
         (bool-cases (p x))
 
-    pub false-all : {x : A} {xs : List A} → List·Memᴰ x xs → p x ≡ false → all p xs ≡ false
-    false-all {x} {xs} m f = not-true-false (all p xs) (λ t. true-not-false (all-true t m) f)
+    pub false-all : {x : A} {xs : List A} → List·Memᴰ x xs → p x ≡ false → allOf p xs ≡ false
+    false-all {x} {xs} m f = not-true-false (allOf p xs) (λ t. true-not-false (all-true t m) f)
 
     module _ {B : Type 0} (f : A → B) where
       pub collect-yes : (x : A) (xs : List A) → p x ≡ true → collect p f (x ∷ xs) ≡ f x ∷ collect p f xs
@@ -162,18 +162,18 @@ module _ {A : Type 0} where
           (λ y. rw (collect-no z zs y) n)
           (bool-cases (p z))
 
-    pub filter-mem : {x : A} (xs : List A) → List·Memᴰ x (filter p xs) → List·Memᴰ x xs × (p x ≡ true)
-    unfolding filter
+    pub filter-mem : {x : A} (xs : List A) → List·Memᴰ x (keep p xs) → List·Memᴰ x xs × (p x ≡ true)
+    unfolding keep
     filter-mem xs m = let r = collect-mem (λ x. x) xs m in (Memᴰ·cast (r .3) (r .1), ap p (r .3) ∙ r .2)
 
-    pub mem-filter : {x : A} {xs : List A} → List·Memᴰ x xs → p x ≡ true → List·Memᴰ x (filter p xs)
-    unfolding filter
+    pub mem-filter : {x : A} {xs : List A} → List·Memᴰ x xs → p x ≡ true → List·Memᴰ x (keep p xs)
+    unfolding keep
     mem-filter m t = mem-collect (λ x. x) m t
 
 -- ---- ranges
 
-pub range-mem : {i : ℕ} (k c : ℕ) → List·Memᴰ i (range k c) → (k ≤ i) × (i < k + c)
-unfolding range
+pub range-mem : {i : ℕ} (k c : ℕ) → List·Memᴰ i (numbersFrom k c) → (k ≤ i) × (i < k + c)
+unfolding numbersFrom
 range-mem k zero m = absurd (List·Memᴰ·not-nil m)
 range-mem {i} k (suc c) m =
     ⊎-elim
@@ -181,8 +181,8 @@ range-mem {i} k (suc c) m =
     (λ n. let r = range-mem (suc k) c n in (omega arith, omega arith))
     (List·Memᴰ·cases-cons m)
 
-pub mem-range : (i k c : ℕ) → k ≤ i → i < k + c → List·Memᴰ i (range k c)
-unfolding range
+pub mem-range : (i k c : ℕ) → k ≤ i → i < k + c → List·Memᴰ i (numbersFrom k c)
+unfolding numbersFrom
 mem-range i k zero l h = absurd (omega arith)
 mem-range i k (suc c) l h =
     ⊎-elim (λ (g : k < i). List·Memᴰ·tail (mem-range i (suc k) c g (omega arith))) (λ (g : i ≤ k). List·Memᴰ·head (omega arith)) (lt-or-ge k i)
@@ -195,8 +195,8 @@ mem-upTo {i} {n} l = mem-range i 0 n (omega arith) (omega arith)
 
 -- ---- two lists, one after the other
 
-pub filter-append : {A : Type 0} (p : A → Bool) (xs ys : List A) → filter p (xs ++ ys) ≡ filter p xs ++ filter p ys
-unfolding filter collect
+pub filter-append : {A : Type 0} (p : A → Bool) (xs ys : List A) → keep p (xs ++ ys) ≡ keep p xs ++ keep p ys
+unfolding keep collect
 filter-append p [] ys = refl
 filter-append {A} p (x ∷ xs) ys = at (p x) (filter-append p xs ys)
   where
@@ -212,8 +212,8 @@ map-append {B = B} f (x ∷ xs) ys = ap (λ (q : List B). f x ∷ q) (map-append
 
 -- ---- the numbers below n, in order
 
-range-length : (k c : ℕ) → length (range k c) ≡ c
-unfolding range
+range-length : (k c : ℕ) → length (numbersFrom k c) ≡ c
+unfolding numbersFrom
 range-length k zero = refl
 range-length k (suc c) = ap suc (range-length (suc k) c)
 
@@ -221,11 +221,19 @@ pub upTo-length : (n : ℕ) → length (upTo n) ≡ n
 upTo-length n = range-length 0 n
 
 -- a list made of the numbers below n, read at i
-getD-range : {A : Type 0} (f : ℕ → A) (k c i : ℕ) (d : A) → i < c → getD (map f (range k c)) i d ≡ f (k + i)
-unfolding range
+getD-range : {A : Type 0} (f : ℕ → A) (k c i : ℕ) (d : A) → i < c → getD (map f (numbersFrom k c)) i d ≡ f (k + i)
+unfolding numbersFrom
 getD-range f k zero i d h = absurd (omega arith)
 getD-range f k (suc c) zero d h = let e : k ≡ k + 0 = omega arith in ap f e
 getD-range f k (suc c) (suc i) d h = let e : suc k + i ≡ k + suc i = omega arith in getD-range f (suc k) c i d (omega arith) ∙ ap f e
 
 pub getD-upTo : {A : Type 0} (f : ℕ → A) (n i : ℕ) (d : A) → i < n → getD (map f (upTo n)) i d ≡ f i
 getD-upTo f n i d h = let e : 0 + i ≡ i = omega arith in getD-range f 0 n i d h ∙ ap f e
+
+-- what one of the lists has, all of them together have
+pub mem-flatten : {A B : Type 0} (f : A → List B) {x : A} {y : B} {xs : List A} → List·Memᴰ x xs → List·Memᴰ y (f x)
+    → List·Memᴰ y (flatten (map f xs))
+unfolding flatten
+mem-flatten {A = A} f {y = y} {xs = x ∷ xs} (List·Memᴰ·head e) m =
+    Memᴰ·append-left (flatten (map f xs)) (subst (λ (z : A). List·Memᴰ y (f z)) e m)
+mem-flatten {A = A} f {xs = x ∷ xs} (List·Memᴰ·tail n) m = Memᴰ·append-right (f x) (mem-flatten f n m)

@@ -9,7 +9,7 @@ use lib.Dec.{ltb}
 use borrow.Author.Tests.{ltb-true, ltb-false}
 use Rattle.semantics.specs.Base.{_if_, _else_, Answer, refused, unless}
 use Rattle.semantics.specs.System.{System, Waits}
-use Rattle.semantics.specs.Step.{Decision, decide}
+use Rattle.semantics.specs.Step.{Decision, routine}
 use Rattle.semantics.specs.Run.{Run, rest, advance, pickStep, pick}
 
 -- the routine's answers
@@ -18,8 +18,8 @@ pub data Decided (S : System) (W : Waits S) (a : ℕ) (g : S .State) : Decision 
   goes : W a g ≡ false → S .able a g ≡ true → Decided S W a g (Decision.go (S .result a g))
   collides : W a g ≡ false → S .able a g ≡ false → Decided S W a g Decision.collision
 
-pub decided : (S : System) (W : Waits S) (a : ℕ) (g : S .State) → Decided S W a g (decide S W a g)
-unfolding decide
+pub decided : (S : System) (W : Waits S) (a : ℕ) (g : S .State) → Decided S W a g (routine S W a g)
+unfolding routine
 decided S W a g = at (W a g) refl (S .able a g) refl
   where
     at : (w : Bool) → W a g ≡ w → (b : Bool) → S .able a g ≡ b
@@ -53,7 +53,7 @@ module _ (S : System) (W : Waits S) (plans : List (List ℕ)) where
 
       step : (p : List ℕ) → j < S .members → r .collided ≡ false → rest plans r j ≡ p → Picked r j (pickStep S W plans r j p)
       step [] h c e = over h c e
-      step (a ∷ p) h c e = decision a p h c e (decide S W a (r .shared)) (decided S W a (r .shared))
+      step (a ∷ p) h c e = decision a p h c e (routine S W a (r .shared)) (decided S W a (r .shared))
 
       still : (b : Bool) → j < S .members → r .collided ≡ b → Picked r j (unless (0 else (13 if b)) (pickStep S W plans r j (rest plans r j)))
       still true h c = closed h c

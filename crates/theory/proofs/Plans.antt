@@ -1,12 +1,12 @@
 -- Plans in one slice: a list of plans, laid end to end, with their ends. Joint replay reads back the list, and does not refuse plans that
--- solve. Assumes nothing.
+-- solve. Plans that are not refused, read by a run. Assumes nothing.
 use mathlib.Core.Path.{_≡_, refl, sym, ap, subst, _∙_}
 use mathlib.Core.Bool.{true}
 use mathlib.Core.List.{List, [], _∷_, _++_, flatten, append-assoc}
-use Prim.Native.Nat.{ℕ, zero, suc, _+_, _≤_, _<_}
+use Prim.Native.Nat.{ℕ, zero, suc, _+_, _-_, _≤_, _<_}
 use native.Mathlib.Nat.{zero-add}
 use native.Mathlib.Omega.{arith}
-use lib.ListN.{length, getD, take, drop, length-append, length-map}
+use lib.ListN.{length, getD, take, drop, length-append, length-map, length-drop}
 use lib.Seq.{slice, take-at, drop-at, ext-getD}
 use lib.Dec.{leb}
 use borrow.Author.Tests.{lt-ltb, eq-eqb, le-leb}
@@ -14,9 +14,10 @@ use Rattle.semantics.specs.Base.{upTo, firstRefusal}
 use Rattle.semantics.specs.Task.{check, members, actions, owner}
 use Rattle.semantics.specs.System.{System, system, waits, Leads, done, next, Solves}
 use Rattle.semantics.specs.Solo.{solves, soloFrom, entry}
-use Rattle.semantics.specs.Run.{beginning, planOf, plansOf, endsFit, planRefusal, plansRefusal, replay, jointReplay}
+use Rattle.semantics.specs.Run.{Run, rest, replay, jointReplay}
+use Rattle.semantics.specs.Run.{beginning, planOf, plansOf, endsFit, planRefusal, plansRefusal}
 use Rattle.theory.proofs.Lists.{and-intro, true-all, upTo-mem, getD-upTo, upTo-length}
-use Rattle.theory.proofs.Refusals.{no-refusal}
+use Rattle.theory.proofs.Refusals.{else-both, no-refusal}
 
 -- the ends of plans laid end to end, the first beginning at k
 unfoldable pub endsFrom : ℕ → List (List ℕ) → List ℕ
@@ -88,7 +89,7 @@ unfolding soloFrom
 leads-solves S i k (done g) = rw g
 leads-solves S i k (next {s = s} {a = a} own b l) = rw b (leads-solves S i (suc k) l)
 
-leads-entries : (t : List ℕ) (i : ℕ) {s : ℕ} {p : List ℕ} → Leads (system t) i s p → firstRefusal (entry t i) p ≡ 0
+pub leads-entries : (t : List ℕ) (i : ℕ) {s : ℕ} {p : List ℕ} → Leads (system t) i s p → firstRefusal (entry t i) p ≡ 0
 unfolding firstRefusal
 leads-entries t i (done g) = refl
 leads-entries t i (next {a = a} own b l) = rw (lt-ltb a (actions t) (own .0), eq-eqb (owner t a) i (own .1)) (leads-entries t i l)
@@ -108,3 +109,19 @@ module _ (t : List ℕ) (accepted : check t ≡ 0) (ps : List (List ℕ)) (many 
   pub laid-replays : (picks : List ℕ) → jointReplay t (flatten ps) (endsFrom 0 ps) picks ≡ replay (system t) (waits t) ps picks
   unfolding jointReplay
   laid-replays picks = rw (laid-accepted, laid-plans ps (members t) many)
+
+-- ---- plans that are not refused
+
+-- they are of an accepted task
+pub checked-task : (t plans ends : List ℕ) → plansRefusal t plans ends ≡ 0 → check t ≡ 0
+unfolding plansRefusal
+checked-task t plans ends h = else-both (check t) _ h .0
+
+-- what is left of member j's plan in a run
+module _ (n : ℕ) (plans ends : List ℕ) (r : Run ℕ) (j : ℕ) (h : j < n) where
+  pub rest-is : rest (plansOf n plans ends) r j ≡ drop (getD (r .places) j 0) (planOf plans ends j)
+  unfolding rest
+  rest-is = ap (drop (getD (r .places) j 0)) (getD-upTo (planOf plans ends) n j [] h)
+
+  pub rest-length : length (rest (plansOf n plans ends) r j) ≡ length (planOf plans ends j) - getD (r .places) j 0
+  rest-length = ap length rest-is ∙ length-drop (getD (r .places) j 0) (planOf plans ends j)

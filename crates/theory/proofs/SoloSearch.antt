@@ -19,14 +19,14 @@ use Rattle.semantics.specs.System.{Lawful, system, waits, Live}
 use Rattle.semantics.specs.Listing.{mem, Reach, here, step}
 use Rattle.semantics.specs.Solo.{soloNext, copies, liveOf, marksOf, Searched, SoloSearch, searchRefusal, soloSearch}
 use Rattle.semantics.specs.Model.{FactSet, _⊆_, apply, Executes, Solution, none, then}
-use Rattle.semantics.specs.Demands.{factsOf, setting, Reachable, Completable, Distinct, SoloSearchAgrees}
-use Rattle.theory.proofs.Lists.{lt-or-ge, mem-getD}
+use Rattle.semantics.specs.Demands.{factsOf, setting, Reachable, Completable, Solvable, Distinct, Lists, Exceed, Breadth, SearchedRows, SoloSearchAgrees}
+use Rattle.theory.proofs.Lists.{lt-or-ge, mem-getD, test-ext}
 use Rattle.theory.proofs.Refusals.{else-both, refused-gives, gives-inj}
 use Rattle.theory.proofs.Masks.{within-sub, sub-within}
 use Rattle.theory.proofs.Accepted.{accepted-lawful}
 use Rattle.theory.proofs.Agrees.Step.{facts-after, same-facts}
 use Rattle.theory.proofs.Agrees.Solo.{leads-iff}
-use Rattle.theory.proofs.Listing.{nodup-index, index-nodup, pigeonhole}
+use Rattle.theory.proofs.Listing.{nodup-index, index-nodup, pigeonhole, listing-breadth}
 use Rattle.theory.proofs.Live.{Steps, soloNext-steps, steps-soloNext, copies-nodup, copies-reachable, reachable-copies, live-sound, copies-live}
 
 -- ---- local copies against states of the model
@@ -121,68 +121,102 @@ module _ (t : List ℕ) (i : ℕ) (table marks : List ℕ) (accepts : searchRefu
   )
 
   found-mark : length rows ≤ length table → (k : ℕ) → k < length rows
-      → (getD (padded (length marks) (marksOf (system t) i rows)) k 0 ≡ 1) ↔ Completable t i (getD (padded (length table) rows) k 0)
+      → (getD (padded (length marks) (marksOf (system t) i rows)) k 0 ≡ 1) ↔ Completable t i (getD rows k 0)
   unfolding marksOf
   found-mark b k l =
       let live = liveOf (system t) i rows in
       let mark : ℕ → ℕ = λ s. 1 if mem eqb s live in
       let s = getD rows k 0 in
       let n : k < length (map mark rows) = rw length-map l in
-      rw (
-        List·getD-append (map mark rows) (replicate (length marks - length (map mark rows)) 0) 0 k n,
-        getD-map mark rows k 0 0 l,
-        List·getD-append rows (replicate (length table - length rows) 0) 0 k l,
-      )
+      rw (List·getD-append (map mark rows) (replicate (length marks - length (map mark rows)) 0) 0 k n, getD-map mark rows k 0 0 l)
       (Iff·trans (if-one (mem eqb s live)) (found-live b s (mem-getD rows k 0 l)))
 
-  rows-distinct : Distinct rows
+  rows-distinct : Distinct 0 rows
   rows-distinct = nodup-index 0 (copies-nodup (system t) (waits t) lawful i (length table))
 
-  -- what an answer of count and live says of the slices
-  abbrev Listed : SoloSearch → Searched → Type 0
-  Listed r c =
-      Distinct (take (c .count) (r .table))
-      × ((s : ℕ) → List·Memᴰ s (take (c .count) (r .table)) ↔ Reachable t i s)
-      × ((k : ℕ) → k < c .count → (getD (r .marks) k 0 ≡ 1) ↔ Completable t i (getD (r .table) k 0))
-      × ((c .live ≡ true) ↔ ((π : List ℕ) × Solution (setting t) i π))
+  rows-reachable : (s : ℕ) → List·Memᴰ s rows → Reachable t i s
+  rows-reachable s m = reachable-iff t i s .0 (copies-reachable (system t) (waits t) lawful i (length table) s m)
 
-  found-listed : length rows ≤ length table → Listed found (record { count = length rows; live = mem eqb (system t .init) (liveOf (system t) i rows) })
-  found-listed b =
-      let e = take-append-seam rows (replicate (length table - length rows) 0) in
-      let first = found-live b (system t .init) (reachable-copies (system t) (waits t) lawful i (length table) b (system t .init) (here refl)) in (
-        subst Distinct (sym e) rows-distinct,
-        λ s. rw e (found-reachable b s),
-        found-mark b,
-        (λ h. let c = first .0 h in (c .0, (c .1, c .2, c .3)), λ p. first .1 (p .0, p .1 .0, p .1 .1, p .1 .2)),
-      )
+  abbrev startLive : Bool
+  startLive = mem eqb (system t .init) (liveOf (system t) i rows)
 
-  exceeds : (xs : List ℕ) → Distinct xs → ((x : ℕ) → List·Memᴰ x xs → Reachable t i x) → length table < length xs → length table < length rows
-  exceeds xs distinct reach l =
+  start-live : length rows ≤ length table → (startLive ≡ true) ↔ Solvable t i
+  start-live b =
+      let first = found-live b (system t .init) (reachable-copies (system t) (waits t) lawful i (length table) b (system t .init) (here refl)) in
+      (λ h. let c = first .0 h in (c .0, (c .1, c .2, c .3)), λ p. first .1 (p .0, p .1 .0, p .1 .1, p .1 .2))
+
+  rows-listed : length rows ≤ length table → Lists 0 (Reachable t i) rows
+  rows-listed b = record { distinct = rows-distinct; just = found-reachable b }
+
+  rows-breadth : length rows ≤ length table → Breadth eqb (soloNext (system t) i) (Task.initial t) rows
+  unfolding copies
+  rows-breadth b = listing-breadth eqb (soloNext (system t) i) (Task.initial t) (Task.initial t) (length table) b
+
+  -- different copies that can be reached are no more than the rows, where these fit
+  most : length rows ≤ length table → (xs : List ℕ) → Distinct 0 xs → ((x : ℕ) → List·Memᴰ x xs → Reachable t i x) → length xs ≤ length rows
+  most b xs distinct reach = pigeonhole rows (index-nodup 0 xs distinct) (λ x m. found-reachable b x .1 (reach x m))
+
+  exceeds : Exceed 0 (Reachable t i) (length table) → length table < length rows
+  exceeds x =
       ⊎-elim (λ h. h)
-      (λ b. let p = pigeonhole rows (index-nodup 0 xs distinct) (λ x m. found-reachable b x .1 (reach x m)) in omega arith)
+      (λ b. let p = most b (x .some) (x .distinct) (x .each) in omega (arith, x .more))
       (lt-or-ge (length table) (length rows))
 
-  full-exceeds : soloSearch t i table marks .answer ≡ refused 9
-      → (xs : List ℕ) × Distinct xs × ((x : ℕ) → List·Memᴰ x xs → Reachable t i x) × (length table < length xs)
+  answered : length rows ≤ length table → soloSearch t i table marks .answer ≡ gives (record { count = length rows; live = startLive })
+  answered b = ap (λ (r : SoloSearch). r .answer) (search-found b)
+
+  full-exceeds : soloSearch t i table marks .answer ≡ refused 9 → Exceed 0 (Reachable t i) (length table)
   full-exceeds e =
       ⊎-elim
-      (λ l. (rows, rows-distinct, λ x m. reachable-iff t i x .0 (copies-reachable (system t) (waits t) lawful i (length table) x m), l))
-      (λ b. absurd (refused-gives (sym e ∙ ap (λ (r : SoloSearch). r .answer) (search-found b))))
+      (λ l. record { some = rows; distinct = rows-distinct; each = rows-reachable; more = l })
+      (λ b. absurd (refused-gives (sym e ∙ answered b)))
       (lt-or-ge (length table) (length rows))
 
-  answer-listed : (c : Searched) → soloSearch t i table marks .answer ≡ gives c → Listed (soloSearch t i table marks) c
-  answer-listed c e =
-      ⊎-elim
-      (λ l. absurd (refused-gives (sym (search-full l) ∙ e)))
-      (λ b.
-      let q = gives-inj (sym (ap (λ (r : SoloSearch). r .answer) (search-found b)) ∙ e) in
-      subst (λ (r : SoloSearch). Listed r c) (sym (search-found b)) (subst (Listed found) q (found-listed b)))
-      (lt-or-ge (length table) (length rows))
+  -- an answer is given only where the rows fit
+  answer-fits : (c : Searched) → soloSearch t i table marks .answer ≡ gives c → length rows ≤ length table
+  answer-fits c e = ⊎-elim (λ l. absurd (refused-gives (sym (search-full l) ∙ e))) (λ b. b) (lt-or-ge (length table) (length rows))
+
+  abbrev Counted : Searched → Type 0
+  Counted c =
+      (c .count ≤ length table)
+      × ((xs : List ℕ) × Lists 0 (Reachable t i) xs × (length xs ≡ c .count))
+      × ((c .live ≡ true) ↔ Solvable t i)
+
+  answer-counted : (c : Searched) → soloSearch t i table marks .answer ≡ gives c → Counted c
+  answer-counted c e =
+      let b = answer-fits c e in
+      subst Counted (gives-inj (sym (answered b) ∙ e)) (b, (rows, rows-listed b, refl), start-live b)
+
+  counted-answer : (c : Searched) → Counted c → soloSearch t i table marks .answer ≡ gives c
+  counted-answer c (few, (xs, l, n), live) =
+      let back : length rows ≤ length xs =
+      pigeonhole xs (copies-nodup (system t) (waits t) lawful i (length table)) (λ x m. l .just x .1 (rows-reachable x m)) in
+      let b : length rows ≤ length table = omega arith in
+      let forth = most b xs (l .distinct) (λ x m. l .just x .0 m) in
+      let count : length rows ≡ c .count = omega arith in
+      let same : startLive ≡ c .live =
+      test-ext startLive (c .live) (λ h. live .1 (start-live b .0 h)) (λ h. start-live b .1 (live .0 h)) in
+      answered b ∙ (λ k. gives (record { count = count k; live = same k }))
+
+  answer-rows : (c : Searched) → soloSearch t i table marks .answer ≡ gives c
+      → SearchedRows t i (take (c .count) (soloSearch t i table marks .table)) (soloSearch t i table marks .marks)
+  answer-rows c e =
+      let b = answer-fits c e in
+      let q = take-append-seam rows (replicate (length table - length rows) 0) in
+      let r : SearchedRows t i rows (padded (length marks) (marksOf (system t) i rows)) =
+      record { listed = rows-listed b; breadth = rows-breadth b; marked = found-mark b } in
+      subst (λ (x : Searched). SearchedRows t i (take (x .count) (soloSearch t i table marks .table)) (soloSearch t i table marks .marks))
+      (gives-inj (sym (answered b) ∙ e))
+      (subst (λ (x : SoloSearch). SearchedRows t i (take (length rows) (x .table)) (x .marks)) (sym (search-found b))
+      (subst (λ (xs : List ℕ). SearchedRows t i xs (padded (length marks) (marksOf (system t) i rows))) (sym q) r))
 
 pub solo-search-agrees : (t : List ℕ) (i : ℕ) (table marks : List ℕ) → searchRefusal t i (length table) (length marks) ≡ 0
     → SoloSearchAgrees t i table marks
 solo-search-agrees t i table marks accepts =
     record {
-      full = (full-exceeds t i table marks accepts, λ h. search-full t i table marks accepts (exceeds t i table marks accepts (h .0) (h .1) (h .2) (h .3)));
-      listed = λ count live e. answer-listed t i table marks accepts (record { count = count; live = live }) e;
+      full = (full-exceeds t i table marks accepts, λ x. search-full t i table marks accepts (exceeds t i table marks accepts x));
+      counted = λ count live.
+          let c : Searched = record { count = count; live = live } in
+          (answer-counted t i table marks accepts c, counted-answer t i table marks accepts c);
+      rows = λ count live. answer-rows t i table marks accepts (record { count = count; live = live });
     }

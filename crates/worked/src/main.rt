@@ -1,12 +1,12 @@
 // Runs the paper's worked laws through the operations and prints what they answer, one line an answer.
 use mask::Shared;
-use picks::Answer;
-use picks::Outcome;
-use picks::Replayed;
-use picks::Run;
-use search::SearchAnswer;
-use solo::Replayed as Solved;
-use solo::Solo;
+use run_pick::Answer;
+use run_pick::Outcome;
+use run_pick::Replayed;
+use run_pick::Run;
+use solo_replay::Replayed as Solved;
+use solo_replay::Solo;
+use solo_search::SearchAnswer;
 use step::Decision;
 use step::Stepped;
 use verdict::VerdictAnswer;
@@ -193,7 +193,7 @@ fn show_solo(name: &[u8], t: &[u64], member: u8, plan: &[u16]) {
     say(b" solo replay of member");
     number(member as u64);
     say(b":");
-    let r = solo::solo_replay(t, member, plan);
+    let r = solo_replay::solo_replay(t, member, plan);
     match r {
         Solved::Refused(k) => refused(k),
         Solved::Gives(s) => match s {
@@ -213,7 +213,7 @@ fn show_search(name: &[u8], t: &[u64], member: u8, table: &mut [u64], marks: &mu
     say(b" solo search of member");
     number(member as u64);
     say(b":");
-    let r = search::solo_search(t, member, table, marks);
+    let r = solo_search::solo_search(t, member, table, marks);
     match r {
         SearchAnswer::Refused(k) => refused(k),
         SearchAnswer::Found(count, live) => {
@@ -234,7 +234,7 @@ fn show_search(name: &[u8], t: &[u64], member: u8, table: &mut [u64], marks: &mu
 fn show_replay(name: &[u8], t: &[u64], plans: &[u16], ends: &[u64], picks: &[u8]) {
     say(name);
     say(b" joint replay:");
-    let r = run::joint_replay(t, plans, ends, picks);
+    let r = run_replay::joint_replay(t, plans, ends, picks);
     match r {
         Replayed::Refused(k) => refused(k),
         Replayed::Gives(e) => {
@@ -259,6 +259,72 @@ fn show_replay(name: &[u8], t: &[u64], plans: &[u16], ends: &[u64], picks: &[u8]
     }
 }
 
+fn show_answer_of(a: Answer) {
+    match a {
+        Answer::Go => say(b" go"),
+        Answer::Collision => say(b" collision"),
+        Answer::Refused(k) => {
+            say(b" refused");
+            number(k);
+        }
+    }
+}
+
+// Of the places, those of two members.
+fn show_run(run: Run) {
+    say(b" shared");
+    let g = run.shared;
+    number(mask::to_word(g.0));
+    say(b", places");
+    let p = run.places;
+    number(p[0]);
+    number(p[1]);
+    if run.collided {
+        say(b", collided")
+    }
+    end();
+}
+
+// The picks one after the other, each on the run as the last one left it.
+fn show_each(t: &[u64], plans: &[u16], ends: &[u64], first: Run, picks: &[u8]) -> Run {
+    let mut run = first;
+    let mut k = 0;
+    while k < picks.len() {
+        let p = run_dispatch::once(t, plans, ends, run, picks[k]);
+        let a = p.answer;
+        show_answer_of(a);
+        run = p.run;
+        k += 1;
+    }
+    run
+}
+
+// The dispatcher from the start: pick by pick, then the list of picks at once.
+fn show_dispatcher(name: &[u8], t: &[u64], plans: &[u16], ends: &[u64], picks: &[u8]) {
+    let s = run_dispatch::start(t);
+    let first = s.run;
+    say(name);
+    say(b" dispatcher:");
+    let last = show_each(t, plans, ends, first, picks);
+    say(b";");
+    show_run(last);
+    say(name);
+    say(b" dispatcher, the list:");
+    let p = run_dispatch::play(t, plans, ends, first, picks);
+    if p.refusal != 0 {
+        refused(p.refusal);
+        return;
+    }
+    let played = p.run;
+    show_run(played);
+}
+
+// The same picks by joint replay and by the dispatcher.
+fn show_runs(name: &[u8], t: &[u64], plans: &[u16], ends: &[u64], picks: &[u8]) {
+    show_replay(name, t, plans, ends, picks);
+    show_dispatcher(name, t, plans, ends, picks);
+}
+
 fn show_pick(name: &[u8], t: &[u64], plans: &[u16], ends: &[u64], member: u8) {
     say(name);
     say(b" pick of member");
@@ -269,7 +335,7 @@ fn show_pick(name: &[u8], t: &[u64], plans: &[u16], ends: &[u64], member: u8) {
         places: [0; 8],
         collided: false,
     };
-    let p = run::pick(t, plans, ends, start, member);
+    let p = run_replay::pick(t, plans, ends, start, member);
     let answer = p.answer;
     match answer {
         Answer::Refused(k) => refused(k),
@@ -407,9 +473,9 @@ fn first() {
     show_search(b"L1", &t, 0, &mut short, &mut marks);
     show_pick(b"L1", &t, &[0, 1, 2, 3], &[2, 4], 0);
     show_pick(b"L1", &t, &[0, 1, 2, 3], &[2, 4], 2);
-    show_replay(b"L1", &t, &[0, 1, 2, 3], &[2, 4], &[0, 0, 1, 1]);
-    show_replay(b"L1", &t, &[0, 1, 2, 3], &[2, 4], &[0]);
-    show_replay(b"L1", &t, &[0, 1, 2, 3], &[2, 4], &[0, 1]);
+    show_runs(b"L1", &t, &[0, 1, 2, 3], &[2, 4], &[0, 0, 1, 1]);
+    show_runs(b"L1", &t, &[0, 1, 2, 3], &[2, 4], &[0]);
+    show_runs(b"L1", &t, &[0, 1, 2, 3], &[2, 4], &[0, 1]);
 }
 
 fn changed() {
@@ -417,11 +483,12 @@ fn changed() {
     l2[17] = 0;
     l2[27] = 0;
     show_check(b"L2", &l2);
-    show_replay(b"L2", &l2, &[0, 1, 2, 3], &[2, 4], &[0, 1]);
+    show_runs(b"L2", &l2, &[0, 1, 2, 3], &[2, 4], &[0, 1]);
+    show_runs(b"L2", &l2, &[0, 2, 3], &[1, 3], &[0, 1]);
     let mut l3 = L1;
     l3[6] = 4;
     l3[11] = 16;
-    show_replay(b"L3", &l3, &[0, 1, 0, 2, 3], &[3, 5], &[0, 0, 0]);
+    show_runs(b"L3", &l3, &[0, 1, 0, 2, 3], &[3, 5], &[0, 0, 0]);
     let mut l4 = L1;
     l4[11] = 2;
     let mut table = [7; 4];
@@ -447,8 +514,8 @@ fn others() {
     l6[3] = 0;
     show_solo(b"L6", &l6, 0, &[]);
     let l7 = L7;
-    show_replay(b"L7", &l7, &[0, 1], &[1, 2], &[0, 1]);
-    show_replay(b"L7", &l7, &[0, 1], &[1, 2], &[1, 0]);
+    show_runs(b"L7", &l7, &[0, 1], &[1, 2], &[0, 1]);
+    show_runs(b"L7", &l7, &[0, 1], &[1, 2], &[1, 0]);
     let l8 = L8;
     let mut table = [7; 4];
     let mut marks = [7; 4];

@@ -106,6 +106,24 @@ fn a_run_is_picked_to_its_end() {
     assert_eq!(Run::start(&l1[..4]), Err(Refusal::Length));
 }
 
+#[test]
+fn picks_are_played() {
+    let (l2, plans, ends) = (laws::l2(), [0, 1, 2, 3], [2, 4]);
+    let mut run = Run::start(&l2).unwrap();
+    let answers = run.play(&l2, &plans, &ends, &[0, 9, 1, 0]).unwrap();
+    let (go, collision) = (Ok(Picked::Go), Ok(Picked::Collision));
+    assert_eq!(answers, [go, Err(Refusal::Member), collision, Err(Refusal::Pick)]);
+    assert!(run.collided());
+    let before = run.clone();
+    assert_eq!(run.play(&l2, &plans, &[2], &[0]), Err(Refusal::Ends));
+    assert_eq!(run, before);
+    let l1 = laws::l1();
+    let mut run = Run::start(&l1).unwrap();
+    let answers = run.play(&l1, &plans, &ends, &[0, 1, 0, 1, 1]).unwrap();
+    assert_eq!(answers, [go, Err(Refusal::Pick), go, go, go]);
+    assert_eq!((run.shared(), &run.places()[..2]), (21, &[2, 2][..]));
+}
+
 /// Each outcome of a replay, and each verdict; a conflict replays to its verdict.
 #[test]
 fn verdicts_and_outcomes() {

@@ -17,8 +17,8 @@ returns-2 c =
 run-of-requires : tie.Need-run-of-requires
 run-of-requires c κs = search needs
 
-pick-requires : tie.Need-pick-requires
-pick-requires c κs = search needs
+once-requires : tie.Need-once-requires
+once-requires c κs = search needs
 
 enum-told : tie.Need-enum-told
 enum-told c = search needs
@@ -43,12 +43,17 @@ same-length-2 c = search needs
 
 returns-3 : tie.Need-returns-3
 returns-3 c =
-    let p = c .before .before .before .before .before .before .before .before .before .before in
+    let d = c .before .before .before .before in
+    let m = d .before .before .before in
+    let p = m .before .before .before in
     let r = p .before in
     let e₂ = r .before .before in
     let e₁ = e₂ .before in
     let a = e₁ .before .before .before .before .before .before .args in
-    pick-goes (a .t .now) (a .plans .now) (a .ends .now) (a .run .now) (a .out .now) (a .member) (e₁ .if1 .left) (e₂ .if2 .left) (r .run-of .result) (r .run-of .ensures) (p .pick .result) (p .pick .ensures) (c .before .before .before .before .done .result) (c .before .before .before .before .done .last .1 .1 .0) (c .before .before .before .before .done .last .0) (c .before .before .before .before .done .ensures .1) (c .before .before .before .before .before .before .before .enum-told .given .1) (c .before .before .before .before .done .ensures .0)
+    pick-goes (a .t .now) (a .plans .now) (a .ends .now) (a .run .now) (a .out .now) (a .member)
+    (e₁ .if1 .left) (e₂ .if2 .left) (r .run-of .result) (r .run-of .ensures) (p .once .result) (p .once .ensures)
+    (d .done .result) (d .done .last .1 .1 .0) (d .done .last .0) (d .done .ensures .1) (m .enum-told .given .1)
+    (d .done .ensures .0)
 
 same-length-3 : tie.Need-same-length-3
 same-length-3 c = search needs
@@ -58,12 +63,17 @@ same-length-4 c = search needs
 
 returns-4 : tie.Need-returns-4
 returns-4 c =
-    let p = c .before .before .before .before .before .before .before .before .before .before in
+    let d = c .before .before .before .before in
+    let m = d .before .before .before in
+    let p = m .before .before .before in
     let r = p .before in
     let e₂ = r .before .before in
     let e₁ = e₂ .before in
     let a = e₁ .before .before .before .before .before .before .args in
-    pick-collides (a .t .now) (a .plans .now) (a .ends .now) (a .run .now) (a .out .now) (a .member) (e₁ .if1 .left) (e₂ .if2 .left) (r .run-of .result) (r .run-of .ensures) (p .pick .result) (p .pick .ensures) (c .before .before .before .before .done2 .result) (c .before .before .before .before .done2 .last .1 .1 .0) (c .before .before .before .before .done2 .last .0) (c .before .before .before .before .done2 .ensures .1) (c .before .before .before .before .before .before .before .enum-told2 .given .1) (c .before .before .before .before .done2 .ensures .0)
+    pick-collides (a .t .now) (a .plans .now) (a .ends .now) (a .run .now) (a .out .now) (a .member)
+    (e₁ .if1 .left) (e₂ .if2 .left) (r .run-of .result) (r .run-of .ensures) (p .once .result) (p .once .ensures)
+    (d .done2 .result) (d .done2 .last .1 .1 .0) (d .done2 .last .0) (d .done2 .ensures .1) (m .enum-told2 .given .1)
+    (d .done2 .ensures .0)
 
 same-length-5 : tie.Need-same-length-5
 same-length-5 c = search needs
@@ -75,7 +85,9 @@ returns-5 c =
     let e₂ = r .before .before in
     let e₁ = e₂ .before in
     let a = e₁ .before .before .before .before .before .before .args in
-    pick-refused (a .t .now) (a .plans .now) (a .ends .now) (a .run .now) (a .out .now) (a .member) (e₁ .if1 .left) (e₂ .if2 .left) (r .run-of .result) (r .run-of .ensures) (p .pick .result) (p .pick .ensures) (c .before .a .given .0 .0) (c .before .a .given .1)
+    pick-refused (a .t .now) (a .plans .now) (a .ends .now) (a .run .now) (a .out .now) (a .member)
+    (e₁ .if1 .left) (e₂ .if2 .left) (r .run-of .result) (r .run-of .ensures) (p .once .result) (p .once .ensures)
+    (c .before .a .given .0 .0) (c .before .a .given .1)
 
 pub lawcheck-pick-spec : {M : Type 1} → statement M
 lawcheck-pick-spec =
@@ -84,7 +96,7 @@ lawcheck-pick-spec =
     returns
     returns-2
     run-of-requires
-    pick-requires
+    once-requires
     enum-told
     done-requires
     enum-told-2

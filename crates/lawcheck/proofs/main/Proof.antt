@@ -2,6 +2,7 @@
 use mathlib.Core.Path.{sym}
 use lib.Seq.{length-take-le}
 use borrow.Author.Needs.{needs}
+use Rattle.program.proofs.Laws.{front-within}
 use Rattle.lawcheck.proofs.main.Statement.{statement}
 use Rattle.lawcheck.proofs.main.Tie as tie
 
@@ -38,27 +39,19 @@ verdict-file-requires : tie.Need-verdict-file-requires
 verdict-file-requires c κs = search needs
 
 array-share-prefix-out : tie.Need-array-share-prefix-out
-array-share-prefix-out c = c .verdict-file .ensures .0
+array-share-prefix-out c = front-within (c .verdict-file .ensures)
 
-slice-aggregate-write-all : tie.Need-slice-aggregate-write-all
-slice-aggregate-write-all c =
+slice-aggregate-print : tie.Need-slice-aggregate-print
+slice-aggregate-print c =
     let f = c .before in
-    sym (length-take-le (f .verdict-file .result) (f .verdict-file .last .1 .0) (f .verdict-file .ensures .0))
+    let e = f .verdict-file .ensures in
+    sym (length-take-le (f .verdict-file .result) (f .verdict-file .last .1 .0) (front-within e))
 
-write-all-requires : tie.Need-write-all-requires
-write-all-requires c κs = search needs
-
-slice-aggregate-fail-2 : tie.Need-slice-aggregate-fail-2
-slice-aggregate-fail-2 c = search needs
-
-fail-requires-2 : tie.Need-fail-requires-2
-fail-requires-2 c κs = search needs
+print-requires : tie.Need-print-requires
+print-requires c κs = search needs
 
 returns-2 : tie.Need-returns-2
 returns-2 c = search needs
-
-returns-3 : tie.Need-returns-3
-returns-3 c = search needs
 
 pub main-spec : {M : Type 1} → statement M
 main-spec =
@@ -75,9 +68,6 @@ main-spec =
     slice-aggregate-verdict-file
     verdict-file-requires
     array-share-prefix-out
-    slice-aggregate-write-all
-    write-all-requires
-    slice-aggregate-fail-2
-    fail-requires-2
-    returns-2
-    returns-3)
+    slice-aggregate-print
+    print-requires
+    returns-2)

@@ -3,20 +3,20 @@ use mathlib.Core.Path.{sym, subst}
 use Prim.Native.Nat.{ℕ}
 use native.Mathlib.Omega.{arith}
 use borrow.Author.Needs.{needs}
-use Rattle.semantics.specs.Verdict.{Lent}
-use Rattle.verdict.specs.Value.{lentOf, answerOf}
-use Rattle.report.specs.Put.{Holds}
+use Rattle.semantics.specs.Verdict.{Slices, lentOf}
+use Rattle.verdict.specs.Value.{answerOf}
+use Rattle.report.specs.Inner.Put.{Holds}
 use Rattle.program.proofs.Laws.{holds, reports, file-fits}
 use Rattle.program.proofs.judge.Statement.{statement}
 use Rattle.program.proofs.judge.Tie as tie
 
 -- the slices before and after the verdict
-abbrev before-of : tie.Start → Lent
+abbrev before-of : tie.Start → Slices
 before-of s =
     let a = s .args in
     lentOf (a .local .now) (a .marks .now) (a .confs .now) (a .trail .now) (a .plans .now) (a .ends .now) (a .picks .now)
 
-abbrev after-of : tie.After-verdict → Lent
+abbrev after-of : tie.After-verdict → Slices
 after-of v =
     let l = v .verdict .last in
     lentOf (l .1 .0) (l .1 .1 .0) (l .1 .1 .1 .0) (l .1 .1 .1 .1 .0) (l .1 .1 .1 .1 .1 .0) (l .1 .1 .1 .1 .1 .1 .0) (l .1 .1 .1 .1 .1 .1 .1 .0)
@@ -33,7 +33,7 @@ put-file-requires c κs =
     let m = v .before .before .before .before .before .before .before .before in
     let s = m .before .before .before .before .before .before .before .before .before .before in
     let t = s .args .t .now in
-    let h = holds t (before-of s) (after-of v) (answerOf (v .verdict .result)) (v .verdict .ensures) in
+    let h = holds t (before-of s) (after-of v) (answerOf (v .verdict .result)) (v .verdict .ensures .0) in
     let k = v .verdict .kept in
     let f = file-fits t (before-of s) (after-of v) (answerOf (v .verdict .result)) (s .pre .0) (s .pre .1 .0) (k .1 .1 .1 .1 .1 .0) (k .1 .1 .1 .1 .1 .1 .1 .0) in (
       subst (λ (n : ℕ). Holds (answerOf (v .verdict .result)) n (after-of v .plans) (after-of v .ends) (after-of v .picks)) (sym (m .members .ensures)) h,
@@ -70,9 +70,9 @@ returns c =
     let v = f .before .before .before .before .before .before .before .before .before .before .before .before .before .before .before .before .before .before .before in
     let m = v .before .before .before .before .before .before .before .before in
     let s = m .before .before .before .before .before .before .before .before .before .before in
-    let r = reports (s .args .t .now) (before-of s) (after-of v) (answerOf (v .verdict .result)) (s .pre .1 .0) (v .verdict .ensures) (m .members .result) (m .members .ensures)
-    (s .args .out .now) (f .put-file .last .0) (f .put-file .result) (f .put-file .ensures) in
-    (omega (arith, r .0, f .put-file .kept .0), r .1)
+    reports (s .args .t .now) (before-of s) (after-of v) (answerOf (v .verdict .result)) (s .pre .1 .0)
+    (v .verdict .ensures .0) (m .members .result) (m .members .ensures)
+    (s .args .out .now) (f .put-file .last .0) (f .put-file .result) (f .put-file .ensures)
 
 pub judge-spec : {M : Type 1} → statement M
 judge-spec =

@@ -2,12 +2,12 @@
 use mathlib.Core.Path.{_≡_, sym, ap, _∙_}
 use Prim.Native.Nat.{ℕ, _*_}
 use native.Mathlib.Omega.{arith}
-use lib.ListN.{length, take, length-replicate}
+use lib.ListN.{length, length-replicate}
 use lib.Seq.{length-take-le}
 use borrow.Author.Needs.{needs}
 use Rattle.semantics.specs.Task.{rowWidth, check}
 use Rattle.text.specs.Post.{mostWords}
-use Rattle.program.proofs.Laws.{Words, words-of, prints-task, prints-refusal, put-within}
+use Rattle.program.proofs.Laws.{Words, words-of, prints-task, prints-refusal}
 use Rattle.program.proofs.of_text.Statement.{statement}
 use Rattle.program.proofs.of_text.Tie as tie
 
@@ -57,8 +57,8 @@ returns c =
     let n = f .before .before .before .before in
     let d = n .before .before .before .before in
     let s = d .before .before .before .before .before in
-    let p = f .of-task .ensures in
-    (p .0, prints-task (s .args .text .now) (s .args .words .now) (d .read .last .1 .0) (s .pre .0) (d .read .result) (d .read .ensures) (take (f .of-task .result) (f .of-task .last .1 .0)) (n .n .given .0 .0) (words n) (p .1))
+    prints-task (s .args .text .now) (s .args .words .now) (d .read .last .1 .0) (s .pre .0) (d .read .result)
+    (d .read .ensures) (n .n .given .0 .0) (words n) (f .of-task .ensures)
 
 same-length-3 : tie.Need-same-length-3
 same-length-3 c = search needs
@@ -72,10 +72,8 @@ returns-2 c =
     let k = f .before .before .before in
     let d = k .before .before .before .before in
     let s = d .before .before .before .before .before in
-    let p = f .put-refusal .ensures in (
-      omega (arith, put-within p, f .put-refusal .kept .0),
-      prints-refusal (s .args .text .now) (s .args .words .now) (d .read .last .1 .0) (s .pre .0) (d .read .result) (d .read .ensures) (take (f .put-refusal .result) (f .put-refusal .last .0)) (k .k .given .0 .0) (k .k .given .1) (p .held),
-    )
+    prints-refusal (s .args .text .now) (s .args .words .now) (d .read .last .1 .0) (s .pre .0) (d .read .result)
+    (d .read .ensures) (k .k .given .0 .0) (k .k .given .1) (f .put-refusal .ensures)
 
 pub of-text-spec : {M : Type 1} → statement M
 of-text-spec =

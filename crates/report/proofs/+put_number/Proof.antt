@@ -4,9 +4,10 @@ use mathlib.Core.Path.{sym, subst}
 use mathlib.Core.List.{List, [], _∷_}
 use Prim.Native.Nat.{ℕ, _+_, _/_, _%_, _<_}
 use native.Mathlib.Omega.{arith}
-use Rattle.text.specs.Written.{digits}
-use Rattle.report.specs.Put.{Room, Put}
-use Rattle.report.proofs.Laws.{put-then, room-first, room-then, digits-one, digits-more}
+use Rattle.theory.proofs.Laid.{Laid, laid-append}
+use Rattle.text.specs.Inner.Written.{digits}
+use Rattle.report.specs.Inner.Put.{Room}
+use Rattle.report.proofs.Laws.{room-first, room-then, digits-one, digits-more}
 use borrow.Fn.Kinds.{In}
 use borrow.Fn.PlainCycle.{Measures, is, falls, and}
 use Rattle.report.proofs.put_number.Reads as put-number
@@ -70,7 +71,8 @@ put-number-returns : (t : ℕ) → put-number-lts.Need-returns (
 put-number-returns t c =
     let f = c .before .before in
     let s = f .before .before .before .before in
-    subst (λ (l : List ℕ). Put (s .args .out .now) (s .args .at) l (f .put-byte .last .0) (f .put-byte .result)) (sym (digits-one (s .args .v) (omega arith)))
+    subst (λ (l : List ℕ). Laid l (s .args .out .now) (s .args .at) (f .put-byte .last .0) (f .put-byte .result))
+    (sym (digits-one (s .args .v) (omega arith)))
     (f .put-byte .ensures)
 
 put-number-put-number-requires : (t : ℕ) → put-number-lts.Need-put-number-requires (
@@ -130,8 +132,9 @@ put-number-returns-2 t c =
     let g = c .before .before in
     let f = g .before .before .before .before in
     let s = f .before .before .before .before in
-    subst (λ (l : List ℕ). Put (s .args .out .now) (s .args .at) l (g .put-byte2 .last .0) (g .put-byte2 .result)) (sym (digits-more (s .args .v) (omega arith)))
-    (put-then (f .put-number .ensures) (g .put-byte2 .ensures))
+    subst (λ (l : List ℕ). Laid l (s .args .out .now) (s .args .at) (g .put-byte2 .last .0) (g .put-byte2 .result))
+    (sym (digits-more (s .args .v) (omega arith)))
+    (laid-append (f .put-number .ensures) (g .put-byte2 .ensures))
 
 pub +put-number-spec : {M : Type 1} → statement M
 +put-number-spec = close μ-put-number λ t. put-number-lts.spec (

@@ -5,7 +5,8 @@ use Prim.Native.Nat.{ℕ, _-_}
 use native.Mathlib.Omega.{arith}
 use lib.ListN.{length}
 use borrow.Author.Needs.{needs}
-use Rattle.report.specs.Put.{Room, Put}
+use Rattle.theory.proofs.Laid.{Laid}
+use Rattle.report.specs.Inner.Put.{Room}
 use Rattle.report.proofs.Laws.{Stage, stage-begin, stage-room, stage-onward, stage-end, spread-bytes}
 use Rattle.report.proofs.put.Statement.{statement}
 use Rattle.report.proofs.put.Tie as tie
@@ -45,7 +46,8 @@ same-length c = c .before .loop .inv .kept
 returns : tie.Need-returns Inv-loop μ-loop
 returns c =
     let a = c .before .before .before .before .args in
-    subst (λ (l : List ℕ). Put (a .out .now) (a .at) l (c .before .loop .out) (c .before .loop .next)) (spread-bytes (a .bytes .now))
+    subst (λ (l : List ℕ). Laid l (a .out .now) (a .at) (c .before .loop .out) (c .before .loop .next))
+    (spread-bytes (a .bytes .now))
     (stage-end (c .before .loop .inv) (omega arith))
 
 pub put-spec : {M : Type 1} → statement M

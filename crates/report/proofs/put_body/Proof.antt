@@ -4,10 +4,11 @@ use mathlib.Core.List.{List}
 use Prim.Native.Nat.{ℕ, _+_}
 use native.Mathlib.Omega.{arith}
 use borrow.Author.Needs.{needs}
+use Rattle.theory.proofs.Laid.{Laid}
 use Rattle.verdict.specs.Value.{answerOf}
 use Rattle.verdict.specs.declared.VerdictAnswer.{VerdictAnswer}
 use Rattle.report.specs.File.{body}
-use Rattle.report.specs.Put.{mostLine, Room, Put, Holds, conflictOf}
+use Rattle.report.specs.Inner.Put.{mostLine, Room, Holds, conflictOf}
 use Rattle.report.proofs.put_body.Statement.{statement}
 use Rattle.report.proofs.put_body.Tie as tie
 
@@ -24,11 +25,16 @@ module _ (s : tie.Start) {v : VerdictAnswer} (e : s .args .answer ≡ v) where
       subst (λ (w : VerdictAnswer). Room (a .out .now) (a .at + mostLine) (conflictOf (answerOf w) (a .n) (a .plans .now) (a .ends .now) (a .picks .now))) e (s .pre .1)
 
   put-of : {after : List ℕ} {r : ℕ}
-      → Put (s .args .out .now) (s .args .at) (body (answerOf v) (s .args .n) (s .args .plans .now) (s .args .ends .now) (s .args .picks .now)) after r
-      → Put (s .args .out .now) (s .args .at) (body (answerOf (s .args .answer)) (s .args .n) (s .args .plans .now) (s .args .ends .now) (s .args .picks .now)) after r
+      → Laid (body (answerOf v) (s .args .n) (s .args .plans .now) (s .args .ends .now) (s .args .picks .now))
+      (s .args .out .now) (s .args .at) after r
+      → Laid (body (answerOf (s .args .answer)) (s .args .n) (s .args .plans .now) (s .args .ends .now)
+      (s .args .picks .now)) (s .args .out .now) (s .args .at) after r
   put-of {after} {r} p =
       let a = s .args in
-      subst (λ (w : VerdictAnswer). Put (a .out .now) (a .at) (body (answerOf w) (a .n) (a .plans .now) (a .ends .now) (a .picks .now)) after r) (sym e) p
+      subst
+      (λ (w : VerdictAnswer).
+      Laid (body (answerOf w) (a .n) (a .plans .now) (a .ends .now) (a .picks .now)) (a .out .now) (a .at) after r)
+      (sym e) p
 
 enum-known-answer : tie.Need-enum-known-answer
 enum-known-answer c = search needs

@@ -1,13 +1,14 @@
 -- `report::put_conflict` meets its contract. Assumes nothing.
 use borrow.Author.Needs.{needs}
-use Rattle.semantics.specs.Base.{range}
+use Rattle.semantics.specs.Base.{numbersFrom}
+use Rattle.theory.proofs.Laid.{laid-append}
 use Rattle.report.specs.File.{word, lines, plansLines}
-use Rattle.report.proofs.Laws.{put-then, room-first, room-then}
+use Rattle.report.proofs.Laws.{room-first, room-then}
 use Rattle.report.proofs.put_conflict.Statement.{statement}
 use Rattle.report.proofs.put_conflict.Tie as tie
 
 put-plans-requires : tie.Need-put-plans-requires
-unfolding word range
+unfolding word numbersFrom
 put-plans-requires c κs =
     let s = c .before .before .before .before .before in
     let a = s .args in
@@ -17,7 +18,7 @@ slice-aggregate-put-picks : tie.Need-slice-aggregate-put-picks
 slice-aggregate-put-picks c = search needs
 
 put-picks-requires : tie.Need-put-picks-requires
-unfolding word range
+unfolding word numbersFrom
 put-picks-requires c κs =
     let f = c .before .before .before .before in
     room-then (f .before .before .before .before .before .before .pre .1) (f .put-plans .ensures) (f .put-plans .kept .0)
@@ -26,10 +27,10 @@ same-length : tie.Need-same-length
 same-length c = search needs
 
 returns : tie.Need-returns
-unfolding word range
+unfolding word numbersFrom
 returns c =
     let g = c .before .before in
-    put-then (g .before .before .before .before .before .put-plans .ensures) (g .put-picks .ensures)
+    laid-append (g .before .before .before .before .before .put-plans .ensures) (g .put-picks .ensures)
 
 pub put-conflict-spec : {M : Type 1} → statement M
 put-conflict-spec =

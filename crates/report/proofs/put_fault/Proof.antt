@@ -3,7 +3,8 @@ use mathlib.Core.Path.{sym}
 use native.Mathlib.Omega.{arith}
 use lib.Seq.{length-take-le}
 use borrow.Author.Needs.{needs}
-use Rattle.report.proofs.Laws.{put-then, line-short, line-room}
+use Rattle.theory.proofs.Laid.{laid-append}
+use Rattle.report.proofs.Laws.{line-short, line-room}
 use Rattle.report.proofs.put_fault.Statement.{statement}
 use Rattle.report.proofs.put_fault.Tie as tie
 
@@ -29,7 +30,7 @@ same-length c = search needs
 returns : tie.Need-returns
 returns c =
     let g = c .before .before in
-    put-then (g .before .before .before .before .before .put-line .ensures) (g .put-conflict .ensures)
+    laid-append (g .before .before .before .before .before .put-line .ensures) (g .put-conflict .ensures)
 
 pub put-fault-spec : {M : Type 1} → statement M
 put-fault-spec =

@@ -1,19 +1,20 @@
 -- `report::put_file` meets its contract. Assumes nothing.
 use native.Mathlib.Omega.{arith}
 use borrow.Author.Needs.{needs}
+use Rattle.theory.proofs.Laid.{laid-append}
 use Rattle.verdict.specs.Value.{answerOf}
-use Rattle.semantics.specs.Base.{range}
+use Rattle.semantics.specs.Base.{numbersFrom}
 use Rattle.report.specs.File.{word}
-use Rattle.report.proofs.Laws.{put-then, conflict-most}
+use Rattle.report.proofs.Laws.{conflict-most}
 use Rattle.report.proofs.put_file.Statement.{statement}
 use Rattle.report.proofs.put_file.Tie as tie
 
 put-header-requires : tie.Need-put-header-requires
-unfolding word range
+unfolding word numbersFrom
 put-header-requires c κs = omega arith
 
 put-body-requires : tie.Need-put-body-requires
-unfolding word range
+unfolding word numbersFrom
 put-body-requires c κs =
     let s = c .before .before .before .before .before .before .before .before .before in
     let a = s .args in
@@ -32,7 +33,7 @@ same-length c = search needs
 returns : tie.Need-returns
 returns c =
     let g = c .before .before in
-    put-then (g .before .before .before .before .put-header .ensures) (g .put-body .ensures)
+    laid-append (g .before .before .before .before .put-header .ensures) (g .put-body .ensures)
 
 pub put-file-spec : {M : Type 1} → statement M
 put-file-spec = tie.close (tie.spec put-header-requires put-body-requires same-length returns)

@@ -1,7 +1,8 @@
 -- `report::put_line` meets its contract. Assumes nothing.
 use native.Mathlib.Omega.{arith}
 use borrow.Author.Needs.{needs}
-use Rattle.report.proofs.Laws.{put-then, line-length}
+use Rattle.theory.proofs.Laid.{laid-append}
+use Rattle.report.proofs.Laws.{line-length}
 use Rattle.report.proofs.put_line.Statement.{statement}
 use Rattle.report.proofs.put_line.Tie as tie
 
@@ -30,7 +31,9 @@ returns c =
     let number = cr .before .before .before .before in
     let comma = number .before .before .before .before in
     let word = comma .before .before .before .before in
-    put-then (word .put .ensures) (put-then (comma .put-byte .ensures) (put-then (number .put-number .ensures) (put-then (cr .put-byte2 .ensures) (lf .put-byte3 .ensures))))
+    laid-append (word .put .ensures)
+    (laid-append (comma .put-byte .ensures)
+    (laid-append (number .put-number .ensures) (laid-append (cr .put-byte2 .ensures) (lf .put-byte3 .ensures))))
 
 pub put-line-spec : {M : Type 1} → statement M
 put-line-spec =

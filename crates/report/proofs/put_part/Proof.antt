@@ -3,10 +3,11 @@ use mathlib.Core.Path.{sym, subst}
 use mathlib.Core.List.{List}
 use Prim.Native.Nat.{ℕ}
 use borrow.Author.Needs.{needs}
-use Rattle.semantics.specs.Base.{range}
+use Rattle.semantics.specs.Base.{numbersFrom}
+use Rattle.theory.proofs.Laid.{Laid}
 use Rattle.report.specs.File.{word, lines}
-use Rattle.report.specs.Put.{Room, Put}
-use Rattle.plans.proofs.Laws.{part-slice}
+use Rattle.report.specs.Inner.Put.{Room}
+use Rattle.run_plans.proofs.Laws.{part-slice}
 use Rattle.report.proofs.put_part.Statement.{statement}
 use Rattle.report.proofs.put_part.Tie as tie
 
@@ -26,7 +27,7 @@ part-put-actions-end : tie.Need-part-put-actions-end
 part-put-actions-end c = search needs
 
 put-actions-requires : tie.Need-put-actions-requires
-unfolding word range
+unfolding word numbersFrom
 put-actions-requires c κs =
     let s = c .before .before .before .before .before in
     let a = s .args in
@@ -36,12 +37,14 @@ same-length : tie.Need-same-length
 same-length c = search needs
 
 returns : tie.Need-returns
-unfolding word range
+unfolding word numbersFrom
 returns c =
     let f = c .before .before in
     let s = f .before .before .before .before .before .before in
     let a = s .args in
-    subst (λ (l : List ℕ). Put (a .out .now) (a .at) (lines (word "action") l) (f .put-actions .last .0) (f .put-actions .result)) (part-slice (a .from) (a .to) (a .plans .now) (s .pre .0))
+    subst (λ (l : List ℕ). Laid (lines (word "action") l) (a .out .now) (a .at)
+    (f .put-actions .last .0) (f .put-actions .result))
+    (part-slice (a .from) (a .to) (a .plans .now) (s .pre .0))
     (f .put-actions .ensures)
 
 pub put-part-spec : {M : Type 1} → statement M

@@ -4,11 +4,12 @@ use mathlib.Core.List.{List, _++_}
 use Prim.Native.Nat.{ℕ}
 use native.Mathlib.Omega.{arith}
 use borrow.Author.Needs.{needs}
-use Rattle.semantics.specs.Base.{range}
+use Rattle.semantics.specs.Base.{numbersFrom}
 use Rattle.semantics.specs.Run.{planOf}
+use Rattle.theory.proofs.Laid.{Laid, laid-append}
 use Rattle.report.specs.File.{word, line, lines}
-use Rattle.report.specs.Put.{Room, Put}
-use Rattle.report.proofs.Laws.{put-then, room-first, room-then, plan-part}
+use Rattle.report.specs.Inner.Put.{Room}
+use Rattle.report.proofs.Laws.{room-first, room-then, plan-part}
 use Rattle.report.proofs.put_plan.Statement.{statement}
 use Rattle.report.proofs.put_plan.Tie as tie
 
@@ -16,7 +17,7 @@ slice-aggregate-put-line : tie.Need-slice-aggregate-put-line
 slice-aggregate-put-line c = search needs
 
 put-line-requires : tie.Need-put-line-requires
-unfolding word range
+unfolding word numbersFrom
 put-line-requires c κs =
     let s = c .before .before .before .before .before in
     let a = s .args in
@@ -29,7 +30,7 @@ end-requires : tie.Need-end-requires
 end-requires c κs = search needs
 
 put-part-requires : tie.Need-put-part-requires
-unfolding word range
+unfolding word numbersFrom
 put-part-requires c κs =
     let e = c .end in
     let d = c .before .before .beginning in
@@ -49,16 +50,19 @@ same-length : tie.Need-same-length
 same-length c = search needs
 
 returns : tie.Need-returns
-unfolding word range
+unfolding word numbersFrom
 returns c =
     let g = c .before .before in
     let e = g .before .end in
     let d = g .before .before .before .beginning in
     let f = g .before .before .before .before .before .before in
     let a = f .before .before .before .before .before .before .args in
-    subst (λ (l : List ℕ). Put (a .out .now) (a .at) (line (word "plan") (a .i) ++ lines (word "action") l) (g .put-part .last .0) (g .put-part .result))
+    subst
+    (λ (l : List ℕ).
+    Laid (line (word "plan") (a .i) ++ lines (word "action") l) (a .out .now) (a .at)
+    (g .put-part .last .0) (g .put-part .result))
     (plan-part (a .plans .now) (a .ends .now) (a .i) (d .result) (e .result) (d .ensures) (e .ensures))
-    (put-then (f .put-line .ensures) (g .put-part .ensures))
+    (laid-append (f .put-line .ensures) (g .put-part .ensures))
 
 pub put-plan-spec : {M : Type 1} → statement M
 put-plan-spec =

@@ -6,7 +6,7 @@ use Rattle.semantics.specs.Base.{upTo}
 use Rattle.theory.proofs.Lists.{upTo-length}
 use Rattle.report.specs.File.{planLines, plansLines}
 use Rattle.report.proofs.Laws.{Stage, stage-begin, stage-room, stage-onward, stage-end}
-use Rattle.plans.proofs.UpTo.{upTo-at}
+use Rattle.run_plans.proofs.UpTo.{upTo-at}
 use Rattle.report.proofs.put_plans.Statement.{statement}
 use Rattle.report.proofs.put_plans.Tie as tie
 

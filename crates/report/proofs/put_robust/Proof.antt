@@ -1,7 +1,7 @@
 -- `report::put_robust` meets its contract. Assumes nothing.
 use native.Mathlib.Omega.{arith}
 use borrow.Author.Needs.{needs}
-use Rattle.semantics.specs.Base.{range}
+use Rattle.semantics.specs.Base.{numbersFrom}
 use Rattle.report.specs.File.{word}
 use Rattle.report.proofs.Laws.{line-room}
 use Rattle.report.proofs.put_robust.Statement.{statement}
@@ -11,7 +11,7 @@ slice-aggregate-put-line : tie.Need-slice-aggregate-put-line
 slice-aggregate-put-line c = search needs
 
 put-line-requires : tie.Need-put-line-requires
-unfolding word range
+unfolding word numbersFrom
 put-line-requires c κs =
     let s = c .before .before .before in
     let a = s .args in
@@ -21,7 +21,7 @@ same-length : tie.Need-same-length
 same-length c = search needs
 
 returns : tie.Need-returns
-unfolding word range
+unfolding word numbersFrom
 returns c = c .before .before .put-line .ensures
 
 pub put-robust-spec : {M : Type 1} → statement M

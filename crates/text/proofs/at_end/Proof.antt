@@ -1,14 +1,9 @@
 -- `text::at_end` meets its contract. Assumes nothing.
 use borrow.Author.Needs.{needs}
+use Rattle.text.proofs.Steps.{next-field-fits, next-record-fits}
 use Rattle.text.proofs.Steps.{all-read, field-missing, last-word, fields-missing, lf-missing}
 use Rattle.text.proofs.at_end.Statement.{statement}
 use Rattle.text.proofs.at_end.Tie as tie
-
-add-next-record : tie.Need-add-next-record
-add-next-record c = search needs
-
-add-next-field : tie.Need-add-next-field
-add-next-field c = search needs
 
 enum-told : tie.Need-enum-told
 enum-told c = search needs
@@ -18,6 +13,12 @@ enum-known-field c = search needs
 
 enum-told-2 : tie.Need-enum-told-2
 enum-told-2 c = search needs
+
+add-next-field : tie.Need-add-next-field
+add-next-field c = search next-field-fits
+
+add-next-record : tie.Need-add-next-record
+add-next-record c = search (needs, next-record-fits)
 
 returns : tie.Need-returns
 returns c = search all-read
@@ -38,10 +39,10 @@ pub at-end-spec : {M : Type 1} → statement M
 at-end-spec =
     tie.close
     (tie.spec
-    add-next-record
-    add-next-field
     enum-told
     enum-known-field
+    add-next-field
+    add-next-record
     enum-told-2
     returns
     returns-2

@@ -12,7 +12,7 @@ same-length : tie.Need-same-length
 same-length c = search needs
 
 returns : tie.Need-returns
-returns c = (refl, cleared (c .before .before .before .before .before .args .words .now) (c .before .before .clear .last .0) (c .before .before .clear .ensures))
+returns c = (refl, search cleared)
 
 pub refuse-spec : {M : Type 1} → statement M
 refuse-spec = tie.close (tie.spec clear-requires same-length returns)

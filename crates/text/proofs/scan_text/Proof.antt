@@ -1,39 +1,18 @@
 -- `text::scan_text` meets its contract: the invariant is that of Scanning.antt. Assumes nothing.
 use borrow.Author.Needs.{needs}
-use native.Mathlib.Omega.{arith}
-use Prim.Native.Nat.{_+_, _-_, _<_}
-use lib.ListN.{length, take, drop, length-set}
-use Rattle.text.proofs.Stands.{After, AtEnd}
-use Rattle.text.proofs.Scanning.{Scanning, begin, scan-limits, turn, onward, word-room, word-on, out, finish, all-found, last-room, last-found, no-end}
+use Prim.Native.Nat.{_-_}
+use lib.ListN.{length}
+use Rattle.text.proofs.Scanning.{Scanning, begin, scan-reach, end-reach, onward, word-room, word-on, out}
+use Rattle.text.proofs.Scanning.{index-fits, count-fits, all-found, last-room, last-fits, last-found, no-end}
 use Rattle.text.proofs.scan_text.Statement.{statement}
 use Rattle.text.proofs.scan_text.Tie as tie
 
 abbrev Inv-loop : tie.InvT-loop
-Inv-loop text words₀ place₀ count₀ i₀ words place count i = Scanning text words₀ words place count i
+Inv-loop text words₀ width most place₀ count₀ i₀ words place count i =
+    Scanning width most text words₀ words place count i
 
 abbrev μ-loop : tie.MeasureT-loop
-μ-loop text words₀ place₀ count₀ i₀ words place count i = length text - i
-
--- what the byte led to
-turned : (c : tie.After-step Inv-loop μ-loop)
-    → After (c .before .before .before .before .before .before .before .before .args .text .now) (take (c .before .before .before .before .loop .count) (c .before .before .before .before .loop .words)) (drop (c .before .before .before .before .loop .i + 1) (c .before .before .before .before .before .before .before .before .args .text .now)) (c .step .result)
-turned c = turn (c .before .before .before .before .loop .inv) (c .before .sort .result) (c .step .result) (omega arith) (c .before .sort .ensures) (c .step .ensures)
-
--- there is room for the word
-stored : (c : tie.After-known-told2 Inv-loop μ-loop) → c .before .before .before .before .before .before .before .loop .count < length (c .before .before .before .before .before .before .before .loop .words)
-stored c =
-    let l = word-room (c .before .before .before .before .before .before .before .loop .inv) (c .before .before .before .step .result) (c .before .next2 .given .0 .0) (c .before .next2 .given .0 .1 .0) (c .before .before .before .before .before .before .before .before .before .before .before .pre) (turned (c .before .before .before)) (c .before .next2 .given .1) in
-    omega (arith, c .before .before .before .before .before .before .before .loop .inv .kept)
-
--- what the end of the text led to
-ended : (c : tie.After-at-end Inv-loop μ-loop)
-    → AtEnd (c .before .before .before .before .before .before .args .text .now) (take (c .before .before .loop .count) (c .before .before .loop .words)) (c .at-end .result)
-ended c = finish (c .before .before .loop .inv) (c .at-end .result) (omega arith) (c .at-end .ensures)
-
-stored-last : (c : tie.After-known-told4 Inv-loop μ-loop) → c .before .before .before .before .before .loop .count < length (c .before .before .before .before .before .loop .words)
-stored-last c =
-    let l = last-room (c .before .before .before .before .before .loop .inv) (c .before .before .before .at-end .result) (c .before .end2 .given .0 .0) (c .before .end2 .given .0 .1 .0) (ended (c .before .before .before)) (c .before .end2 .given .1) in
-    omega (arith, c .before .before .before .before .before .loop .inv .kept)
+μ-loop text words₀ width most place₀ count₀ i₀ words place count i = length text - i
 
 start-requires : tie.Need-start-requires Inv-loop μ-loop
 start-requires c κs = search needs
@@ -42,43 +21,43 @@ loop-holds : tie.Need-loop-holds Inv-loop μ-loop
 loop-holds c = search begin
 
 shared-slice-read-sort : tie.Need-shared-slice-read-sort Inv-loop μ-loop
-shared-slice-read-sort c = omega arith
+shared-slice-read-sort c = search needs
 
 sort-requires : tie.Need-sort-requires Inv-loop μ-loop
 sort-requires c κs = search needs
 
 step-requires : tie.Need-step-requires Inv-loop μ-loop
-step-requires c κs = scan-limits (c .before .before .before .loop .inv)
+step-requires c κs = search scan-reach
 
 add-i : tie.Need-add-i Inv-loop μ-loop
-add-i c = omega arith
+add-i c = search needs
 
 enum-known-next : tie.Need-enum-known-next Inv-loop μ-loop
 enum-known-next c = search needs
 
 loop-less : tie.Need-loop-less Inv-loop μ-loop
-loop-less c = omega arith
+loop-less c = search needs
 
 loop-again : tie.Need-loop-again Inv-loop μ-loop
-loop-again c = onward (c .before .before .before .before .before .before .before .loop .inv) (c .before .before .before .step .result) (c .before .next .given .0 .0) (omega arith) (turned (c .before .before .before)) (c .before .next .given .1)
+loop-again c = search onward
 
 enum-known-next-2 : tie.Need-enum-known-next-2 Inv-loop μ-loop
 enum-known-next-2 c = search needs
 
 mul-words : tie.Need-mul-words Inv-loop μ-loop
-mul-words c = omega (arith, stored c)
+mul-words c = search index-fits
 
 slice-write-words : tie.Need-slice-write-words Inv-loop μ-loop
-slice-write-words c = stored c
+slice-write-words c = search word-room
 
 add-count : tie.Need-add-count Inv-loop μ-loop
-add-count c = omega (arith, stored c)
+add-count c = search count-fits
 
 loop-less-2 : tie.Need-loop-less-2 Inv-loop μ-loop
-loop-less-2 c = omega arith
+loop-less-2 c = search needs
 
 loop-again-2 : tie.Need-loop-again-2 Inv-loop μ-loop
-loop-again-2 c = word-on (c .before .before .before .before .before .before .before .loop .inv) (c .before .before .before .step .result) (c .before .next2 .given .0 .0) (c .before .next2 .given .0 .1 .0) (c .before .before .before .before .before .before .before .before .before .before .before .pre) (omega arith) (turned (c .before .before .before)) (c .before .next2 .given .1)
+loop-again-2 c = search word-on
 
 enum-told : tie.Need-enum-told Inv-loop μ-loop
 enum-told c = search needs
@@ -87,10 +66,10 @@ same-length : tie.Need-same-length Inv-loop μ-loop
 same-length c = search needs
 
 returns : tie.Need-returns Inv-loop μ-loop
-returns c = out (c .before .before .before .before .before .before .loop .inv) (c .before .before .step .result) (turned (c .before .before)) (c .enum-told .given .1)
+returns c = search out
 
 at-end-requires : tie.Need-at-end-requires Inv-loop μ-loop
-at-end-requires c κs = scan-limits (c .before .loop .inv)
+at-end-requires c κs = search end-reach
 
 enum-known-end : tie.Need-enum-known-end Inv-loop μ-loop
 enum-known-end c = search needs
@@ -99,10 +78,10 @@ enum-known-end-2 : tie.Need-enum-known-end-2 Inv-loop μ-loop
 enum-known-end-2 c = search needs
 
 mul-words-2 : tie.Need-mul-words-2 Inv-loop μ-loop
-mul-words-2 c = omega (arith, stored-last c)
+mul-words-2 c = search last-fits
 
 slice-write-words-2 : tie.Need-slice-write-words-2 Inv-loop μ-loop
-slice-write-words-2 c = stored-last c
+slice-write-words-2 c = search last-room
 
 enum-told-2 : tie.Need-enum-told-2 Inv-loop μ-loop
 enum-told-2 c = search needs
@@ -111,19 +90,19 @@ same-length-2 : tie.Need-same-length-2 Inv-loop μ-loop
 same-length-2 c = search needs
 
 returns-2 : tie.Need-returns-2 Inv-loop μ-loop
-returns-2 c = all-found (c .before .before .before .before .before .loop .inv) (c .before .before .before .at-end .result) (c .before .end .given .0 .0) (ended (c .before .before .before)) (c .before .end .given .1)
+returns-2 c = search all-found
 
 same-length-3 : tie.Need-same-length-3 Inv-loop μ-loop
-same-length-3 c = simp length-set (c .before .before .before .before .before .loop .inv .kept)
+same-length-3 c = search needs
 
 returns-3 : tie.Need-returns-3 Inv-loop μ-loop
-returns-3 c = last-found (c .before .before .before .before .before .loop .inv) (c .before .before .before .at-end .result) (c .before .end2 .given .0 .0) (c .before .end2 .given .0 .1 .0) (c .before .before .before .before .before .before .before .before .before .pre) (ended (c .before .before .before)) (c .before .end2 .given .1)
+returns-3 c = search last-found
 
 same-length-4 : tie.Need-same-length-4 Inv-loop μ-loop
 same-length-4 c = search needs
 
 returns-4 : tie.Need-returns-4 Inv-loop μ-loop
-returns-4 c = no-end (c .before .before .before .before .loop .inv) (c .before .before .at-end .result) (ended (c .before .before)) (c .enum-told2 .given .1)
+returns-4 c = search no-end
 
 pub scan-text-spec : {M : Type 1} → statement M
 scan-text-spec =

@@ -1,7 +1,6 @@
 -- `text::sort` meets its contract. Assumes nothing.
 use borrow.Author.Needs.{needs}
-use mathlib.Core.Path.{refl}
-use Rattle.text.proofs.Steps.{digit, below-digit, above-digit}
+use Rattle.text.proofs.Steps.{digit-sorted, other-below, other-above}
 use Rattle.text.proofs.sort.Statement.{statement}
 use Rattle.text.proofs.sort.Tie as tie
 
@@ -18,13 +17,13 @@ returns-3 : tie.Need-returns-3
 returns-3 c = search needs
 
 returns-4 : tie.Need-returns-4
-returns-4 c = (digit _ (c .before .if1 .left) (c .if2 .taken), refl)
+returns-4 c = search (needs, digit-sorted)
 
 returns-5 : tie.Need-returns-5
-returns-5 c = (below-digit _ (c .if1 .taken), c .before .match .rest .0 .0 .1, c .before .match .rest .0 .1, c .before .match .rest .1)
+returns-5 c = search other-below
 
 returns-6 : tie.Need-returns-6
-returns-6 c = (above-digit _ (c .if2 .left), c .before .before .match .rest .0 .0 .1, c .before .before .match .rest .0 .1, c .before .before .match .rest .1)
+returns-6 c = search other-above
 
 pub sort-spec : {M : Type 1} → statement M
 sort-spec = tie.close (tie.spec cast-d returns returns-2 returns-3 returns-4 returns-5 returns-6)

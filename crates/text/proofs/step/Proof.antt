@@ -1,14 +1,9 @@
 -- `text::step` meets its contract: each way through it is a case of its definition. Assumes nothing.
 use borrow.Author.Needs.{needs}
-use Rattle.text.proofs.Steps.{begins, too-many, no-field, leading-zero, goes-on, too-large, next-field, sixth, ends, too-few, next-record, lone-cr}
+use Rattle.text.proofs.Steps.{next-field-fits, ended-record-fits, begins, too-many, no-field, leading-zero}
+use Rattle.text.proofs.Steps.{goes-on, too-large, next-field, extra-field, ends, too-few, next-record, lone-cr}
 use Rattle.text.proofs.step.Statement.{statement}
 use Rattle.text.proofs.step.Tie as tie
-
-add-next-record : tie.Need-add-next-record
-add-next-record c = search needs
-
-add-next-field : tie.Need-add-next-field
-add-next-field c = search needs
 
 enum-told : tie.Need-enum-told
 enum-told c = search needs
@@ -37,8 +32,14 @@ add-value c = search needs
 enum-told-2 : tie.Need-enum-told-2
 enum-told-2 c = search needs
 
+add-next-field : tie.Need-add-next-field
+add-next-field c = search next-field-fits
+
 enum-told-3 : tie.Need-enum-told-3
 enum-told-3 c = search needs
+
+add-next-field-2 : tie.Need-add-next-field-2
+add-next-field-2 c = search next-field-fits
 
 enum-told-4 : tie.Need-enum-told-4
 enum-told-4 c = search needs
@@ -51,6 +52,9 @@ enum-told-6 c = search needs
 
 enum-told-7 : tie.Need-enum-told-7
 enum-told-7 c = search needs
+
+add-next-record : tie.Need-add-next-record
+add-next-record c = search ended-record-fits
 
 returns-2 : tie.Need-returns-2
 returns-2 c = search begins
@@ -71,7 +75,7 @@ returns-7 : tie.Need-returns-7
 returns-7 c = search next-field
 
 returns-8 : tie.Need-returns-8
-returns-8 c = search sixth
+returns-8 c = search extra-field
 
 returns-9 : tie.Need-returns-9
 returns-9 c = search ends
@@ -95,8 +99,6 @@ pub step-spec : {M : Type 1} → statement M
 step-spec =
     tie.close
     (tie.spec
-    add-next-record
-    add-next-field
     enum-told
     enum-known-b
     enum-known-field
@@ -106,11 +108,14 @@ step-spec =
     mul-value
     add-value
     enum-told-2
+    add-next-field
     enum-told-3
+    add-next-field-2
     enum-told-4
     enum-told-5
     enum-told-6
     enum-told-7
+    add-next-record
     returns-2
     returns-3
     returns-4

@@ -1,26 +1,30 @@
 -- Joint replay agrees with the model: the picks lead to a world, with its outcome; or all but the last, which collides.
 use mathlib.Core.Path.{_≡_, refl, sym, ap, subst, _∙_, fun-ext}
 use mathlib.Core.Bool.{Bool, true, false, not, cond, false≢true}
-use mathlib.Core.Logic.{_⊎_, inl, inr, ⊎-elim}
+use mathlib.Core.Logic.{_⊎_, inl, inr, ⊎-elim, _↔_}
 use mathlib.Core.List.{List, [], _∷_, _++_}
 use Prim.Native.Nat.{ℕ, zero, suc, _+_, _≤_}
 use native.Mathlib.Omega.{arith}
-use lib.Dec.{ltb}
+use lib.Dec.{eqb, ltb, leb}
 use lib.ListN.{length, getD, drop, replicate}
+use borrow.Author.Tests.{eqb-true, eq-eqb, leb-true, le-leb}
 use Rattle.semantics.specs.Base.{Answer, refused, gives, unless, upTo, _if_, firstRefusal}
 use Rattle.semantics.specs.Task as Task
+use Rattle.semantics.specs.Task.{check}
 use Rattle.semantics.specs.System.{system, waits}
 use Rattle.semantics.specs.Solo.{Solo, solves, soloFrom, entry}
-use Rattle.semantics.specs.Run.{Run, mostMembers, Fault, Outcome, failure, Replay, rest, tally, pick, start, outcome, replayOn, replay, planOf, plansOf, endsFit, isSolves, planRefusal, plansRefusal, jointReplay}
+use Rattle.semantics.specs.Run.{Run, mostMembers, Fault, Outcome, failure, Replay, rest, tally, pick, start, outcome, replayOn, replay, beginning, planOf, plansOf, endsFit, isSolves, planRefusal, plansRefusal, jointReplay}
 use Rattle.semantics.specs.Model.{World, Acts, Collides, Execution, none, then, Solution}
-use Rattle.semantics.specs.Demands.{factsOf, setting, worldOf, OutcomeOf, Ends, JointReplayAgrees}
-use Rattle.theory.proofs.Lists.{apart}
-use Rattle.theory.proofs.Refusals.{else-both, if-not-true, upTo-refusal}
+use Rattle.semantics.specs.Demands.{factsOf, setting, worldOf, worldAt, OutcomeOf, Ends, SolvingPlans, JointReplayAgrees}
+use Rattle.theory.proofs.Lists.{apart, and-elim, all-true, true-all, upTo-mem, mem-upTo}
+use Rattle.theory.proofs.Refusals.{else-both, if-not-true, no-refusal, upTo-refusal, unless-gives}
 use Rattle.theory.proofs.Accepted.{accepted}
+use Rattle.theory.proofs.Complete.{closed-outcome}
+use Rattle.theory.proofs.Plans.{leads-solves, leads-entries}
 use Rattle.theory.proofs.Agrees.Step.{same-facts}
-use Rattle.theory.proofs.Agrees.Solo.{entries-own, Replayed, soloFrom-replayed}
+use Rattle.theory.proofs.Agrees.Solo.{entries-own, Replayed, soloFrom-replayed, solution-leads}
 use Rattle.theory.proofs.Agrees.Worlds.{moves-agent, moves-stays, acts-collides, acts-unique}
-use Rattle.theory.proofs.Agrees.Pick.{Going, worldAt, Picked, picked}
+use Rattle.theory.proofs.Agrees.Pick.{Going, Picked, picked}
 use Rattle.theory.proofs.Agrees.Outcome.{outcome-says, outcome-unique}
 
 -- ---- picks from any world, one after the other
@@ -85,11 +89,6 @@ from-ends t plans x =
 -- ---- joint replay from a run
 
 -- after a collision, and after a refusal, nothing more is answered
-collided-outcome : (t : List ℕ) (plans : List (List ℕ)) (r : Run ℕ) → r .collided ≡ true
-    → outcome (system t) (waits t) plans r ≡ failure Fault.collision
-unfolding outcome
-collided-outcome t plans r e = rw e
-
 collided-pick : (t : List ℕ) (plans : List (List ℕ)) (r : Run ℕ) → r .collided ≡ true → (j : ℕ)
     → (e : ℕ) × (pick (system t) (waits t) plans r j ≡ refused e)
 unfolding pick
@@ -125,7 +124,7 @@ module _ (t : List ℕ) (few : Task.members t ≤ mostMembers) (plans : List (Li
   unfolding replayOn
   collided-on r c k [] a h =
       let q : (record { outcome = outcome (system t) (waits t) plans r; shared = r .shared; picked = k }) ≡ a = cc in
-      (refl, sym (ap (λ (x : Replay ℕ). x .outcome) q) ∙ collided-outcome t plans r c, sym (ap (λ (x : Replay ℕ). x .shared) q), sym (ap (λ (x : Replay ℕ). x .picked) q))
+      (refl, sym (ap (λ (x : Replay ℕ). x .outcome) q) ∙ closed-outcome (system t) (waits t) plans r c, sym (ap (λ (x : Replay ℕ). x .shared) q), sym (ap (λ (x : Replay ℕ). x .picked) q))
   collided-on r c k (j ∷ js) a h =
       let (e, q) = collided-pick t plans r c j in
       absurd (apart (cc (refused-replay t plans e (tally k (refused e)) js)))
@@ -158,7 +157,7 @@ module _ (t : List ℕ) (few : Task.members t ≤ mostMembers) (plans : List (Li
   unfolding replayOn
   replay-crash r i k g (gives r′) (Picked.goes g′ act) c e = absurd (acts-collides (setting t) (worldAt t plans r) i act c)
   replay-crash r i k g (gives r′) (Picked.collides c s k′) col e =
-      replay-path (collided-outcome t plans r′ c) (s ∙ sym e) (ap (λ (b : Bool). cond b k (k + 1)) c ∙ omega arith)
+      replay-path (closed-outcome (system t) (waits t) plans r′ c) (s ∙ sym e) (ap (λ (b : Bool). cond b k (k + 1)) c ∙ omega arith)
   replay-crash r i k g (refused n) (Picked.impossible h) c e =
       absurd (moves-stays (setting t) (worldAt t plans r) i (inl c) (h (moves-agent (setting t) (worldAt t plans r) i (inl c))))
 
@@ -200,11 +199,11 @@ start-rest : (t : List ℕ) (plans : List (List ℕ)) (j : ℕ) → rest plans (
 unfolding start rest
 start-rest t plans j = ap (λ (n : ℕ). drop n (getD plans j [])) (zeros-at mostMembers j)
 
-start-world : (t : List ℕ) (plans : List (List ℕ)) → worldOf t plans ≡ worldAt t plans (start (system t))
+pub start-world : (t : List ℕ) (plans : List (List ℕ)) → worldOf t plans ≡ worldAt t plans (start (system t))
 unfolding start
 start-world t plans = let left = fun-ext (start-rest t plans) in sym (λ i. record { state = setting t .init; left = left i })
 
-start-going : (t : List ℕ) → Going (start (system t))
+pub start-going : (t : List ℕ) → Going (start (system t))
 unfolding start
 start-going t = record { wide = refl; uncollided = refl }
 
@@ -221,35 +220,85 @@ plan-solution t j plan h =
     subst (Replayed t j 0 (Task.initial t) plan) (is-solves from (if-not-true 11 (isSolves from) s))
     (soloFrom-replayed t j 0 (Task.initial t) plan (entries-own t j plan e))
 
-pub joint-replay-agrees : (t plans ends : List ℕ) → plansRefusal t plans ends ≡ 0 → JointReplayAgrees t plans ends
-unfolding plansRefusal jointReplay replay
-joint-replay-agrees t plans ends h =
-    record {
-      solutions = λ j l. plan-solution t j (planOf plans ends j) (upTo-refusal (λ j. planRefusal t j (planOf plans ends j)) (Task.members t) refusals j l);
-      replays = λ picks o g k. (
-        λ e.
-            let (m, q, f) = replay-told t few P picks (start (system t)) (start-going t) 0 (record { outcome = o; shared = g; picked = k }) (sym (answer picks) ∙ e) in
-            let m′ : m ≡ k = omega arith in
-            from-ends t P (rw (start-world t P) (subst (EndsFrom t (worldAt t P (start (system t))) picks o g) m′ f)),
-        λ e.
-            answer picks ∙ told-replay t few P (ends-from t P e) (start (system t)) (start-going t) (start-world t P) 0
-            ∙ replay-path refl refl (omega arith),
-      );
-    }
-  where
-    P : List (List ℕ)
+-- and an individual solution is not refused
+pub solution-plan : (t : List ℕ) (j : ℕ) (plan : List ℕ) → Solution (setting t) j plan → planRefusal t j plan ≡ 0
+solution-plan t j plan s =
+    let l = solution-leads t j plan s in
+    rw (leads-entries t j l, leads-solves (system t) j 0 l)
+
+module _ (t plans ends : List ℕ) where
+  abbrev planned : ℕ → ℕ
+  planned j = planRefusal t j (planOf plans ends j)
+
+  -- the plans' check, taken apart
+  checked : plansRefusal t plans ends ≡ 0
+      → (check t ≡ 0) × (endsFit (Task.members t) plans ends ≡ true) × (firstRefusal planned (upTo (Task.members t)) ≡ 0)
+  unfolding plansRefusal
+  checked h =
+      let (c, r) = else-both (check t) _ h in
+      let (f, p) = else-both (11 if not (endsFit (Task.members t) plans ends)) _ r in
+      (c, if-not-true 10 _ f, p)
+
+  plans-solving : plansRefusal t plans ends ≡ 0 → SolvingPlans t plans ends
+  unfolding endsFit
+  plans-solving h =
+      let (c, f, p) = checked h in
+      let (x, whole) = and-elim _ (eqb (beginning ends (Task.members t)) (length plans)) f in
+      let (many, rising) = and-elim (eqb (length ends) (Task.members t)) _ x in
+      record {
+        accepted = c;
+        many = eqb-true _ _ many;
+        rising = λ j l. leb-true _ _ (all-true (λ j. leb (beginning ends j) (getD ends j 0)) rising (mem-upTo l));
+        whole = eqb-true _ _ whole;
+        solutions = λ j l. plan-solution t j (planOf plans ends j) (upTo-refusal planned (Task.members t) p j l);
+      }
+
+  solving-plans : SolvingPlans t plans ends → plansRefusal t plans ends ≡ 0
+  unfolding plansRefusal endsFit
+  solving-plans s =
+      rw (
+        s .accepted,
+        eq-eqb (length ends) (Task.members t) (s .many),
+        true-all (λ j. leb (beginning ends j) (getD ends j 0)) (upTo (Task.members t))
+            (λ j m. le-leb (beginning ends j) (getD ends j 0) (s .rising j (upTo-mem (Task.members t) m))),
+        eq-eqb (beginning ends (Task.members t)) (length plans) (s .whole),
+      )
+      (no-refusal planned (upTo (Task.members t))
+      (λ j m. solution-plan t j (planOf plans ends j) (s .solutions j (upTo-mem (Task.members t) m))))
+
+  module _ (h : plansRefusal t plans ends ≡ 0) where
+    abbrev P : List (List ℕ)
     P = plansOf (Task.members t) plans ends
 
-    accepts : (Task.check t ≡ 0) × (firstRefusal (λ j. planRefusal t j (planOf plans ends j)) (upTo (Task.members t)) ≡ 0)
-    accepts =
-        let (c, r) = else-both (Task.check t) _ h in
-        (c, else-both (11 if not (endsFit (Task.members t) plans ends)) _ r .1)
-
-    refusals : firstRefusal (λ j. planRefusal t j (planOf plans ends j)) (upTo (Task.members t)) ≡ 0
-    refusals = accepts .1
-
     few : Task.members t ≤ mostMembers
-    few = accepted t (accepts .0) .few-members
+    few = accepted t (checked h .0) .few-members
 
     answer : (picks : List ℕ) → jointReplay t plans ends picks ≡ replayOn (system t) (waits t) P (gives (start (system t))) 0 picks
+    unfolding jointReplay replay
     answer picks = ap (λ (r : ℕ). unless r (replayOn (system t) (waits t) P (gives (start (system t))) 0 picks)) h
+
+    begins : (a : Replay ℕ) × (jointReplay t plans ends [] ≡ gives a)
+    unfolding replayOn
+    begins = (record { outcome = outcome (system t) (waits t) P (start (system t)); shared = start (system t) .shared; picked = 0 }, answer [])
+
+    replays : (picks : List ℕ) (o : Outcome) (g k : ℕ)
+        → (jointReplay t plans ends picks ≡ gives (record { outcome = o; shared = g; picked = k })) ↔ Ends t P picks o g k
+    replays picks o g k = (
+      λ e.
+          let (m, q, f) = replay-told t few P picks (start (system t)) (start-going t) 0 (record { outcome = o; shared = g; picked = k }) (sym (answer picks) ∙ e) in
+          let m′ : m ≡ k = omega arith in
+          from-ends t P (rw (start-world t P) (subst (EndsFrom t (worldAt t P (start (system t))) picks o g) m′ f)),
+      λ e.
+          answer picks ∙ told-replay t few P (ends-from t P e) (start (system t)) (start-going t) (start-world t P) 0
+          ∙ replay-path refl refl (omega arith),
+    )
+
+pub joint-replay-agrees : (t plans ends : List ℕ) → JointReplayAgrees t plans ends
+unfolding jointReplay
+joint-replay-agrees t plans ends =
+    record {
+      accepts = (plans-solving t plans ends, solving-plans t plans ends);
+      begins = begins t plans ends;
+      answers = λ picks a e. unless-gives (plansRefusal t plans ends) _ e .0;
+      replays = replays t plans ends;
+    }

@@ -8,17 +8,17 @@ use native.Mathlib.Omega.{arith}
 use lib.Dec.{ltb}
 use lib.ListN.{length}
 use borrow.Author.Tests.{ltb-false}
-use Rattle.semantics.specs.Base.{Answer, refused, gives, range, upTo}
+use Rattle.semantics.specs.Base.{Answer, refused, gives, numbersFrom, upTo}
 use Rattle.semantics.specs.Task as Task
 use Rattle.semantics.specs.System.{System, system, waits}
 use Rattle.semantics.specs.Run.{Run, mostMembers, Fault, Outcome, success, failure, still-open, missed, deadlock, rest, given, pick, pickable, stepsLeft, missedIn, outcome}
 use Rattle.semantics.specs.Model.{World, Waiting, Ended, GoesOn}
-use Rattle.semantics.specs.Demands.{setting, OutcomeOf}
+use Rattle.semantics.specs.Demands.{setting, OutcomeOf, worldAt, Stays}
 use Rattle.theory.proofs.Lists.{lt-or-ge, not-true-false, not-false-true, any-true, true-any, any-false, false-any, mem-upTo, upTo-mem}
 use Rattle.theory.proofs.Masks.{within-sub, sub-within}
 use Rattle.theory.proofs.Agrees.Step.{not-within, not-sub}
-use Rattle.theory.proofs.Agrees.Worlds.{Moves, Stays, moves-agent, moves-stays, waiting-left, ended-goes, deadlock-goes}
-use Rattle.theory.proofs.Agrees.Pick.{Going, worldAt, Picked, picked}
+use Rattle.theory.proofs.Agrees.Worlds.{Moves, moves-agent, moves-stays, waiting-left, ended-goes, deadlock-goes}
+use Rattle.theory.proofs.Agrees.Pick.{Going, Picked, picked}
 
 -- ---- the first goal that is missing, of the members k, k + 1, .., c of them
 
@@ -35,14 +35,14 @@ module _ (S : System) (g : S .State) where
       first {i = i} (omega arith) (omega arith) n
       (λ j m v. ⊎-elim (λ (s : k < j). h j s v) (λ (s : j ≤ k). let q : j ≡ k = omega arith in rw q e) (lt-or-ge k j))
 
-  pub first-missed : (k c : ℕ) → FirstMissed k c (missedIn S g (range k c))
-  unfolding missedIn range
+  pub first-missed : (k c : ℕ) → FirstMissed k c (missedIn S g (numbersFrom k c))
+  unfolding missedIn numbersFrom
   first-missed k zero = held (λ j l u. absurd (omega arith))
   first-missed k (suc c) = go (S .goal k g) refl (first-missed (suc k) c)
     where
-      go : (b : Bool) → S .goal k g ≡ b → FirstMissed (suc k) c (missedIn S g (range (suc k) c))
-          → FirstMissed k (suc c) (cond b (missedIn S g (range (suc k) c)) (failure (missed k)))
-      go true e h = widen k c (missedIn S g (range (suc k) c)) e h
+      go : (b : Bool) → S .goal k g ≡ b → FirstMissed (suc k) c (missedIn S g (numbersFrom (suc k) c))
+          → FirstMissed k (suc c) (cond b (missedIn S g (numbersFrom (suc k) c)) (failure (missed k)))
+      go true e h = widen k c (missedIn S g (numbersFrom (suc k) c)) e h
       go false e h = first {i = k} (omega arith) (omega arith) e (λ j l u. absurd (omega arith))
 
   pub first-missed-unique : (k c : ℕ) (o o′ : Outcome) → FirstMissed k c o → FirstMissed k c o′ → o ≡ o′

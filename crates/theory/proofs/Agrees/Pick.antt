@@ -1,35 +1,33 @@
 -- A pick agrees with the model: a run stands for a world, and a pick is what the scheduler's choice makes of it.
-use mathlib.Core.Path.{_≡_, refl, sym, subst, _∙_, fun-ext}
-use mathlib.Core.Bool.{Bool, true, false}
-use mathlib.Core.Logic.{inl, inr}
+use mathlib.Core.Path.{_≡_, refl, sym, ap, subst, _∙_, fun-ext}
+use mathlib.Core.Bool.{Bool, true, false, not, false≢true}
+use mathlib.Core.Logic.{inl, inr, ⊎-elim}
 use mathlib.Core.List.{List, _∷_}
 use Prim.Native.Nat.{ℕ, _+_, _≤_, _<_}
 use native.Mathlib.Omega.{arith}
-use lib.Dec.{eqb}
+use lib.Dec.{eqb, ltb}
 use lib.ListN.{length, getD, length-set}
-use borrow.Author.Tests.{eqb-true, eqb-false}
-use Rattle.semantics.specs.Base.{Answer, refused, gives}
-use Rattle.semantics.specs.Mask.{after}
+use borrow.Author.Tests.{eqb-true, eqb-false, ltb-false, le-ltb}
+use Rattle.semantics.specs.Base.{upTo, anyOf, _if_, _else_, Answer, refused, gives}
+use Rattle.semantics.specs.Mask.{within, after, below}
 use Rattle.semantics.specs.Task as Task
 use Rattle.semantics.specs.System.{system, waits}
-use Rattle.semantics.specs.Run.{Run, mostMembers, rest, pick}
+use Rattle.semantics.specs.Run.{Run, mostMembers, rest, pick, planOf, plansOf, plansRefusal, pickOn}
 use Rattle.semantics.specs.Model.{World, leaving, apply, Acts, acts, Collides, Waiting}
-use Rattle.semantics.specs.Demands.{factsOf, setting}
-use Rattle.theory.proofs.Lists.{true-not-false}
+use Rattle.semantics.specs.Demands.{factsOf, setting, worldAt, worldIn, stepped, closed, Stays, RunFits, PickAgrees}
+use Rattle.theory.proofs.Lists.{true-not-false, apart, any-false, false-any, upTo-mem, mem-upTo}
+use Rattle.theory.proofs.Refusals.{else-both, if-false, if-not-true, refused-gives, gives-inj, unless-gives}
+use Rattle.theory.proofs.Accepted.{accepted}
 use Rattle.theory.proofs.Masks.{within-sub}
 use Rattle.theory.proofs.Picks as Pick
 use Rattle.theory.proofs.Picks.{gone, rest-picked, rest-others}
-use Rattle.theory.proofs.Agrees.Step.{facts-after, not-within, asks-within, waits-lack}
-use Rattle.theory.proofs.Agrees.Worlds.{Stays}
+use Rattle.theory.proofs.Agrees.Step.{facts-after, same-facts, not-within, asks-within, waits-lack}
+use Rattle.theory.proofs.Agrees.Worlds.{moves-agent, moves-stays, acts-collides, acts-unique}
 
 -- a run that goes on: it has all its places and has not collided
 pub record Going (r : Run ℕ) : Type 0 where
   pub wide : length (r .places) ≡ mostMembers
   pub uncollided : r .collided ≡ false
-
--- the world that a run stands for
-abbrev pub worldAt : (t : List ℕ) → List (List ℕ) → Run ℕ → World (setting t)
-worldAt t plans r = record { state = factsOf (r .shared); left = λ j. rest plans r j }
 
 -- what the answer of a pick says
 pub data Picked (t : List ℕ) (plans : List (List ℕ)) (r : Run ℕ) (j : ℕ) : Answer (Run ℕ) → Type 0 where
@@ -71,3 +69,128 @@ module _ (t : List ℕ) (few : Task.members t ≤ mostMembers) (plans : List (Li
 pub picked : (t : List ℕ) → Task.members t ≤ mostMembers → (plans : List (List ℕ)) (r : Run ℕ) → Going r
     → (j : ℕ) → Picked t plans r j (pick (system t) (waits t) plans r j)
 picked t few plans r going j = asked t few plans r going j (pick (system t) (waits t) plans r j) (Pick.picked (system t) (waits t) plans r j)
+
+-- ---- the operation
+
+module _ (t plans ends : List ℕ) (r : Run ℕ) (i : ℕ) where
+  abbrev P : List (List ℕ)
+  P = plansOf (Task.members t) plans ends
+
+  abbrev W : World (setting t)
+  W = worldIn t plans ends r
+
+  abbrev isPast : ℕ → Bool
+  isPast j = ltb (length (planOf plans ends j)) (getD (r .places) j 0)
+
+  fit-pick : RunFits t plans ends r → pickOn t plans ends r i ≡ pick (system t) (waits t) P r i
+  unfolding pickOn
+  fit-pick f =
+      rw (
+        f .plans-fit,
+        f .shared-fits,
+        false-any isPast (upTo (Task.members t)) (λ j m. le-ltb _ _ (f .places-fit j (upTo-mem (Task.members t) m))),
+      )
+
+  pub pick-fits : (r′ : Run ℕ) → pickOn t plans ends r i ≡ gives r′ → RunFits t plans ends r
+  unfolding pickOn
+  pick-fits r′ e =
+      let refusal = plansRefusal t plans ends else (4 if not (below (Task.facts t) (r .shared))) else (11 if anyOf isPast (upTo (Task.members t))) in
+      let (p, q) = else-both (plansRefusal t plans ends) _ (unless-gives refusal (pick (system t) (waits t) P r i) e .0) in
+      let (b, l) = else-both (4 if not (below (Task.facts t) (r .shared))) _ q in
+      record {
+        plans-fit = p;
+        shared-fits = if-not-true 3 _ b;
+        places-fit = λ j m. ltb-false _ _ (any-false isPast (if-false 10 _ l) (mem-upTo m));
+      }
+
+  -- what a pick that goes, one that collides and one of a member that stays say, each both ways
+  goes-told : (g : ℕ) → pickOn t plans ends r i ≡ gives (stepped r i g) → i < Task.members t → r .collided ≡ false
+      → Acts (setting t) W i (worldIn t plans ends (stepped r i g)) → PickAgrees t plans ends r i
+  goes-told g e h c act =
+      record {
+        goes = λ g′. (
+          λ q. let s : g ≡ g′ = ap (λ (x : Run ℕ). x .shared) (gives-inj (sym e ∙ q)) in
+              (c, subst (λ (x : ℕ). Acts (setting t) W i (worldIn t plans ends (stepped r i x))) s act),
+          λ k.
+              let s = same-facts g g′ (ap (λ (w : World (setting t)). w .state) (acts-unique (setting t) W i act (k .1))) in
+              e ∙ ap (λ (x : ℕ). gives (stepped r i x)) s,
+        );
+        collides = (
+          λ q. absurd (false≢true (ap (λ (x : Run ℕ). x .collided) (gives-inj (sym e ∙ q)))),
+          λ k. absurd (acts-collides (setting t) W i act (k .1)),
+        );
+        nobody = (λ q. absurd (refused-gives (sym q ∙ e)), λ k. absurd (k h));
+        impossible = (
+          λ q. absurd (refused-gives (sym q ∙ e)),
+          λ k. absurd (⊎-elim (λ d. true-not-false d c) (moves-stays (setting t) W i (inr (worldIn t plans ends (stepped r i g), act))) (k .1)),
+        );
+      }
+
+  collides-told : pickOn t plans ends r i ≡ gives (closed r) → i < Task.members t → r .collided ≡ false → Collides (setting t) W i
+      → PickAgrees t plans ends r i
+  collides-told e h c crash =
+      record {
+        goes = λ g. (
+          λ q. absurd (false≢true (ap (λ (x : Run ℕ). x .collided) (gives-inj (sym q ∙ e)))),
+          λ k. absurd (acts-collides (setting t) W i (k .1) crash),
+        );
+        collides = (λ q. (c, crash), λ k. e);
+        nobody = (λ q. absurd (refused-gives (sym q ∙ e)), λ k. absurd (k h));
+        impossible = (
+          λ q. absurd (refused-gives (sym q ∙ e)),
+          λ k. absurd (⊎-elim (λ d. true-not-false d c) (moves-stays (setting t) W i (inl crash)) (k .1)),
+        );
+      }
+
+  stays-told : pickOn t plans ends r i ≡ refused 13 → i < Task.members t → Stays (setting t) W i → PickAgrees t plans ends r i
+  stays-told e h s =
+      record {
+        goes = λ g. (
+          λ q. absurd (refused-gives (sym e ∙ q)),
+          λ k. absurd (moves-stays (setting t) W i (inr (worldIn t plans ends (stepped r i g), k .1)) s),
+        );
+        collides = (λ q. absurd (refused-gives (sym e ∙ q)), λ k. absurd (moves-stays (setting t) W i (inl (k .1)) s));
+        nobody = (λ q. absurd (apart (cc)), λ k. absurd (k h));
+        impossible = (λ q. (h, inr s), λ k. e);
+      }
+
+  module _ (few : Task.members t ≤ mostMembers) (wide : length (r .places) ≡ mostMembers) where
+    -- the world after the step is the one that the scheduler's choice makes
+    its-acts : (a : ℕ) (π : List ℕ) → i < Task.members t → r .collided ≡ false → rest P r i ≡ a ∷ π → waits t a (r .shared) ≡ false
+        → within (Task.pre t a) (r .shared) ≡ true
+        → Acts (setting t) W i (worldIn t plans ends (stepped r i (after (r .shared) (Task.add t a) (Task.del t a))))
+    its-acts a π h c left w b =
+        subst (Acts (setting t) W i) (sym (gone-world t few P r (record { wide = wide; uncollided = c }) i h a π left))
+        (acts h left (asks-within t a (r .shared) w) (within-sub (Task.pre t a) (r .shared) b))
+
+    told : (x : Answer (Run ℕ)) → pickOn t plans ends r i ≡ x → Pick.Picked (system t) (waits t) P r i x → PickAgrees t plans ends r i
+    told x e (Pick.Picked.nobody h) =
+        let n : ¬ (i < Task.members t) = λ l. omega arith in
+        record {
+          goes = λ g. (λ q. absurd (refused-gives (sym e ∙ q)), λ k. absurd (n (moves-agent (setting t) W i (inr (worldIn t plans ends (stepped r i g), k .1)))));
+          collides = (λ q. absurd (refused-gives (sym e ∙ q)), λ k. absurd (n (moves-agent (setting t) W i (inl (k .1)))));
+          nobody = (λ q. n, λ k. e);
+          impossible = (λ q. absurd (apart (cc)), λ k. absurd (n (k .0)));
+        }
+    told x e (Pick.Picked.closed h c) =
+        record {
+          goes = λ g. (λ q. absurd (refused-gives (sym e ∙ q)), λ k. absurd (true-not-false c (k .0)));
+          collides = (λ q. absurd (refused-gives (sym e ∙ q)), λ k. absurd (true-not-false c (k .0)));
+          nobody = (λ q. absurd (apart (cc)), λ k. absurd (k h));
+          impossible = (λ q. (h, inl c), λ k. e);
+        }
+    told x e (Pick.Picked.over h c left) = stays-told e h (inr left)
+    told x e (Pick.Picked.waits {a = a} h c left w) = stays-told e h (inl (Waiting.waiting left (waits-lack t a (r .shared) w)))
+    told x e (Pick.Picked.goes {a = a} {p = π} h c left w b) = goes-told (after (r .shared) (Task.add t a) (Task.del t a)) e h c (its-acts a π h c left w b)
+    told x e (Pick.Picked.collides {a = a} h c left w b) =
+        collides-told e h c (Collides.collides h left (asks-within t a (r .shared) w) (not-within (Task.pre t a) (r .shared) b))
+
+plans-accepted : (t plans ends : List ℕ) → plansRefusal t plans ends ≡ 0 → Task.check t ≡ 0
+unfolding plansRefusal
+plans-accepted t plans ends h = else-both (Task.check t) _ h .0
+
+pub pick-agrees : (t plans ends : List ℕ) (r : Run ℕ) (i : ℕ) → length (r .places) ≡ mostMembers → RunFits t plans ends r → PickAgrees t plans ends r i
+pick-agrees t plans ends r i wide f =
+    told t plans ends r i (accepted t (plans-accepted t plans ends (f .plans-fit)) .few-members) wide
+    (pick (system t) (waits t) (plansOf (Task.members t) plans ends) r i) (fit-pick t plans ends r i f)
+    (Pick.picked (system t) (waits t) (plansOf (Task.members t) plans ends) r i)

@@ -8,7 +8,7 @@ use Rattle.semantics.specs.Base.{gives, unless}
 use Rattle.semantics.specs.Mask.{within, after}
 use Rattle.semantics.specs.Task as Task
 use Rattle.semantics.specs.System.{system, waits}
-use Rattle.semantics.specs.Step.{Decision, decide, stepRefusal, step}
+use Rattle.semantics.specs.Step.{Decision, routine, stepRefusal, step}
 use Rattle.semantics.specs.Model.{FactSet, _⊆_, apply}
 use Rattle.semantics.specs.Demands.{factsOf, setting, StepAgrees}
 use Rattle.theory.proofs.Lists.{not-true-false, apart}
@@ -42,8 +42,8 @@ asks-within t a g w = within-sub (Task.wait t a) g (not-false (within (Task.wait
 pub waits-lack : (t : List ℕ) (a g : ℕ) → waits t a g ≡ true → ¬ (setting t .waitfor a ⊆ factsOf g)
 waits-lack t a g w = not-within (Task.wait t a) g (not-true (within (Task.wait t a) g) w)
 
-pub decides : (t : List ℕ) (a g : ℕ) → Decides t a g (decide (system t) (waits t) a g)
-decides t a g = at (decide (system t) (waits t) a g) (Pick.decided (system t) (waits t) a g)
+pub decides : (t : List ℕ) (a g : ℕ) → Decides t a g (routine (system t) (waits t) a g)
+decides t a g = at (routine (system t) (waits t) a g) (Pick.decided (system t) (waits t) a g)
   where
     at : (d : Decision ℕ) → Pick.Decided (system t) (waits t) a g d → Decides t a g d
     at d (Pick.Decided.waits w) = waiting (waits-lack t a g w)
@@ -76,5 +76,5 @@ decided t a g Decision.collision e (collides w n) =
 pub step-agrees : (t : List ℕ) (a g : ℕ) → stepRefusal t a g ≡ 0 → StepAgrees t a g
 unfolding step
 step-agrees t a g h =
-    let d = decide (system t) (waits t) a g in
+    let d = routine (system t) (waits t) a g in
     decided t a g d (ap (λ (r : ℕ). unless r (gives d)) h) (decides t a g)

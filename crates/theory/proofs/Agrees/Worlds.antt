@@ -4,16 +4,13 @@ use mathlib.Core.Logic.{_⊎_, inl, inr}
 use mathlib.Core.List.{List, [], _∷_}
 use Prim.Native.Nat.{ℕ, _<_}
 use Rattle.semantics.specs.Model.{Setting, _⊆_, World, Acts, acts, Collides, collides, Waiting, waiting, Ended, Deadlock, GoesOn}
+use Rattle.semantics.specs.Demands.{Stays}
 use Rattle.theory.proofs.Lists.{apart}
 
 module _ (Π : Setting) where
   -- the scheduler can choose agent i
   abbrev pub Moves : World Π → ℕ → Type 0
   Moves w i = Collides Π w i ⊎ ((w′ : World Π) × Acts Π w i w′)
-
-  -- agent i waits or has ended
-  abbrev pub Stays : World Π → ℕ → Type 0
-  Stays w i = Waiting Π w i ⊎ (w .left i ≡ [])
 
   module _ (w : World Π) (i : ℕ) where
     -- the pending action of an agent that can be chosen
@@ -24,7 +21,7 @@ module _ (Π : Setting) where
     pub moves-agent : Moves w i → i < Π .agents
     moves-agent m = moves-with m .0
 
-    pub moves-stays : Moves w i → Stays w i → ⊥
+    pub moves-stays : Moves w i → Stays Π w i → ⊥
     moves-stays m (inl (waiting {a} {π} e n)) =
         let (l, b, ρ, q, h) = moves-with m in
         let s : b ≡ a = cc in

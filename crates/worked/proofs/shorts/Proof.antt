@@ -10,39 +10,30 @@ Inv-loop xs i₀ i = i ≤ length xs
 abbrev μ-loop : tie.MeasureT-loop
 μ-loop xs i₀ i = length xs - i
 
--- src/main.rt:150:5
 loop-holds : tie.Need-loop-holds Inv-loop μ-loop
 loop-holds c = search needs
 
--- src/main.rt:151:23
 mul-narrow : tie.Need-mul-narrow Inv-loop μ-loop
 mul-narrow c = search needs
 
--- src/main.rt:151:23
 shared-slice-read-narrow : tie.Need-shared-slice-read-narrow Inv-loop μ-loop
 shared-slice-read-narrow c = search needs
 
--- src/main.rt:151:16
 narrow-requires : tie.Need-narrow-requires Inv-loop μ-loop
 narrow-requires c κs = search needs
 
--- src/main.rt:151:9
 number-requires : tie.Need-number-requires Inv-loop μ-loop
 number-requires c κs = search needs
 
--- src/main.rt:152:9
 add-i : tie.Need-add-i Inv-loop μ-loop
 add-i c = search needs
 
--- src/main.rt:150:5
 loop-less : tie.Need-loop-less Inv-loop μ-loop
 loop-less c = search needs
 
--- src/main.rt:150:5
 loop-again : tie.Need-loop-again Inv-loop μ-loop
 loop-again c = search needs
 
--- src/main.rt:148:1
 returns : tie.Need-returns Inv-loop μ-loop
 returns c = search needs
 

@@ -1,0 +1,58 @@
+-- `capi::lawcheck_play` meets its contract: one law for each way out. Assumes nothing.
+use borrow.Author.Needs.{needs}
+use Rattle.capi.proofs.Plays.{play-short, play-refused, play-given}
+use Rattle.capi.proofs.lawcheck_play.Statement.{statement}
+use Rattle.capi.proofs.lawcheck_play.Tie as tie
+
+returns : tie.Need-returns
+returns c = search play-short
+
+run-of-requires : tie.Need-run-of-requires
+run-of-requires c κs = search needs
+
+play-requires : tie.Need-play-requires
+play-requires c κs = search needs
+
+same-length : tie.Need-same-length
+same-length c = search needs
+
+same-length-2 : tie.Need-same-length-2
+same-length-2 c = search needs
+
+returns-2 : tie.Need-returns-2
+returns-2 c = search play-refused
+
+words-of-requires : tie.Need-words-of-requires
+words-of-requires c κs = search needs
+
+slice-aggregate-put : tie.Need-slice-aggregate-put
+slice-aggregate-put c = search needs
+
+put-requires : tie.Need-put-requires
+put-requires c κs = search needs
+
+same-length-3 : tie.Need-same-length-3
+same-length-3 c = search needs
+
+same-length-4 : tie.Need-same-length-4
+same-length-4 c = search needs
+
+returns-3 : tie.Need-returns-3
+returns-3 c = search play-given
+
+pub lawcheck-play-spec : {M : Type 1} → statement M
+lawcheck-play-spec =
+    tie.close
+    (tie.spec
+    returns
+    run-of-requires
+    play-requires
+    same-length
+    same-length-2
+    returns-2
+    words-of-requires
+    slice-aggregate-put
+    put-requires
+    same-length-3
+    same-length-4
+    returns-3)

@@ -1,0 +1,35 @@
+-- The start of a run and a list of picks on it, for C: the number returned, and the lent slices afterwards.
+use mathlib.Core.Path.{_≡_}
+use mathlib.Core.List.{List}
+use Prim.Native.Nat.{ℕ}
+use lib.ListN.{length}
+use lib.Dec.{ltb}
+use Rattle.semantics.specs.Base.{_if_, _else_, _leaves_otherwise_}
+use Rattle.semantics.specs.Task.{check}
+use Rattle.semantics.specs.System.{system}
+use Rattle.semantics.specs.Run.{start}
+use Rattle.run_play.specs.Value.{playFrom, playRefusal, answered}
+use Rattle.capi_numbers.specs.Call.{front}
+use Rattle.capi_numbers.specs.Runs.{runWords, runIn, wordsOf}
+
+-- 14 for too few words, then the task check
+abbrev pub startRefusal : List ℕ → List ℕ → ℕ
+startRefusal t run = (14 if ltb (length run) runWords) else check t
+
+pub record StartCall (t run : List ℕ) (r : ℕ) (run′ : List ℕ) : Type 0 where
+  pub number : r ≡ startRefusal t run
+  pub held : run′ ≡ (startRefusal t run leaves (λ k. run) otherwise front (wordsOf (start (system t))) run)
+
+-- 14 for too few words, then as the list of picks refuses
+abbrev pub refusesPlay : List ℕ → List ℕ → List ℕ → List ℕ → List ℕ → List ℕ → ℕ
+refusesPlay t plans ends run picks answers =
+    (14 if ltb (length run) runWords) else playRefusal t plans ends (runIn run) picks answers
+
+pub record PlayCall (t plans ends run picks answers : List ℕ) (r : ℕ) (run′ answers′ : List ℕ) : Type 0 where
+  pub number : r ≡ refusesPlay t plans ends run picks answers
+  pub held : run′
+      ≡ (refusesPlay t plans ends run picks answers leaves (λ k. run)
+      otherwise front (wordsOf (playFrom t plans ends (runIn run) picks)) run)
+  pub told : answers′
+      ≡ (refusesPlay t plans ends run picks answers leaves (λ k. answers)
+      otherwise answered t plans ends (runIn run) picks answers)

@@ -1,0 +1,50 @@
+-- `capi_numbers::replay_numbers` meets its contract. Assumes nothing.
+use Rattle.capi_numbers.proofs.Told.{success, collision, deadlock, missed, still-open}
+use borrow.Author.Needs.{needs}
+use Rattle.capi_numbers.proofs.replay_numbers.Statement.{statement}
+use Rattle.capi_numbers.proofs.replay_numbers.Tie as tie
+
+enum-told : tie.Need-enum-told
+enum-told c = search needs
+
+enum-told-2 : tie.Need-enum-told-2
+enum-told-2 c = search needs
+
+enum-told-3 : tie.Need-enum-told-3
+enum-told-3 c = search needs
+
+enum-known-o : tie.Need-enum-known-o
+enum-known-o c = search needs
+
+enum-told-4 : tie.Need-enum-told-4
+enum-told-4 c = search needs
+
+returns : tie.Need-returns
+returns c = search success
+
+returns-2 : tie.Need-returns-2
+returns-2 c = search collision
+
+returns-3 : tie.Need-returns-3
+returns-3 c = search deadlock
+
+returns-4 : tie.Need-returns-4
+returns-4 c = search missed
+
+returns-5 : tie.Need-returns-5
+returns-5 c = search still-open
+
+pub replay-numbers-spec : {M : Type 1} → statement M
+replay-numbers-spec =
+    tie.close
+    (tie.spec
+    enum-told
+    enum-told-2
+    enum-told-3
+    enum-known-o
+    enum-told-4
+    returns
+    returns-2
+    returns-3
+    returns-4
+    returns-5)

@@ -1,0 +1,134 @@
+// The C interface's numbers: what each answer is as numbers, a run as words, and numbers put to the front of a slice.
+ghost use mathlib.Core.Path.{_≡_};
+ghost use mathlib.Core.List.{[], _∷_};
+ghost use Prim.Native.Nat.{_≤_};
+ghost use lib.ListN.{length};
+ghost use Rattle.step.specs.Value.{decisionOf};
+ghost use Rattle.solo_replay.specs.Value.{soloOf};
+ghost use Rattle.run_pick.specs.Value.{runOf, outcomeOf};
+ghost use Rattle.verdict.specs.Value.{answerOf};
+ghost use Rattle.capi_numbers.specs.Call.{call, front, told};
+ghost use Rattle.capi_numbers.specs.Numbers as numbers;
+ghost use Rattle.capi_numbers.specs.Runs.{runWords, runIn, wordsOf};
+use mask::Shared;
+use run_pick::Outcome;
+use run_pick::Run;
+use solo_replay::Solo;
+use step::Decision;
+use verdict::VerdictAnswer;
+
+// The numbers at the front of the slice, the rest as it was.
+pub fn put(slice: &mut [u64], numbers: &[u64])
+    requires { ⌜ length (now numbers) ≤ length (now slice) ⌝ }
+    ensures { λ _. ⌜ now (slice .exit) ≡ front (now (numbers .entry)) (now (slice .entry)) ⌝ }
+{
+    let mut i = 0;
+    while i < numbers.len() {
+        slice[i] = numbers[i];
+        i += 1;
+    }
+}
+
+pub fn decision_numbers(d: Decision) -> [u64; 2]
+    ensures { λ r. ⌜ r ≡ numbers.decision (decisionOf d) ⌝ }
+{
+    match d {
+        Decision::Go(g) => [0, mask::to_word(g.0)],
+        Decision::Wait => [1, 0],
+        Decision::Collision => [2, 0],
+    }
+}
+
+pub fn solo_numbers(s: Solo) -> [u64; 2]
+    ensures { λ r. ⌜ r ≡ numbers.solo (soloOf s) ⌝ }
+{
+    match s {
+        Solo::Solves => [0, 0],
+        Solo::Breaks(k) => [1, k as u64],
+        Solo::Short => [2, 0],
+    }
+}
+
+pub fn replay_numbers(o: Outcome, k: u64, g: u64) -> [u64; 4]
+    ensures { λ r. ⌜ r ≡ numbers.replayed (outcomeOf o) k g ⌝ }
+{
+    match o {
+        Outcome::Success => [0, 0, k, g],
+        Outcome::Collision => [1, 0, k, g],
+        Outcome::Deadlock => [2, 0, k, g],
+        Outcome::Missed(j) => [3, j as u64, k, g],
+        Outcome::Open => [4, 0, k, g],
+    }
+}
+
+// The run that the words hold.
+pub fn run_of(words: &[u64]) -> Run
+    requires { ⌜ runWords ≤ length (now words) ⌝ }
+    ensures { λ r. ⌜ runOf r ≡ runIn (now (words .entry)) ⌝ }
+{
+    let g = Shared(mask::of_word(words[9]));
+    let places = [
+        words[1],
+        words[2],
+        words[3],
+        words[4],
+        words[5],
+        words[6],
+        words[7],
+        words[8],
+    ];
+    Run {
+        shared: g,
+        places: places,
+        collided: words[0] != 0,
+    }
+}
+
+// The words of a run.
+pub fn words_of(r: Run) -> [u64; 10]
+    ensures { λ w. ⌜ w ≡ wordsOf (runOf r) ⌝ }
+{
+    let p = r.places;
+    let g = r.shared;
+    let c = r.collided as u64;
+    let w = mask::to_word(g.0);
+    [c, p[0], p[1], p[2], p[3], p[4], p[5], p[6], p[7], w]
+}
+
+// The run after a pick that was done, and the pick's number.
+pub fn done(words: &mut [u64], r: Run, out: &mut [u64], number: u64) -> u64
+    requires { ⌜ runWords ≤ length (now words) ⌝ }
+    requires { ⌜ 1 ≤ length (now out) ⌝ }
+    ensures { λ c. ⌜ call c (now (out .exit)) ≡ call 0 (front (number ∷ []) (now (out .entry))) ⌝ }
+    ensures { λ _. ⌜ now (words .exit) ≡ front (wordsOf (runOf r)) (now (words .entry)) ⌝ }
+{
+    let w = words_of(r);
+    put(words, &w);
+    let numbers = [number];
+    put(out, &numbers);
+    0
+}
+
+// The numbers of a verdict that is no refusal.
+pub fn verdict_numbers(out: &mut [u64], kind: u64, member: usize, number: usize) -> u64
+    requires { ⌜ 3 ≤ length (now out) ⌝ }
+    ensures { λ r. ⌜ call r (now (out .exit)) ≡ call 0 (front (kind ∷ member ∷ number ∷ []) (now (out .entry))) ⌝ }
+{
+    let numbers = [kind, member as u64, number as u64];
+    put(out, &numbers);
+    0
+}
+
+pub fn tell(v: VerdictAnswer, out: &mut [u64]) -> u64
+    requires { ⌜ 3 ≤ length (now out) ⌝ }
+    ensures { λ r. ⌜ call r (now (out .exit)) ≡ told numbers.verdict (now (out .entry)) (answerOf v) ⌝ }
+{
+    match v {
+        VerdictAnswer::Refused(k) => k,
+        VerdictAnswer::Robust(c) => verdict_numbers(out, 0, 0, c),
+        VerdictAnswer::Unsolvable(i) => verdict_numbers(out, 1, i, 0),
+        VerdictAnswer::Collision(k) => verdict_numbers(out, 2, 0, k),
+        VerdictAnswer::Deadlock(k) => verdict_numbers(out, 3, 0, k),
+        VerdictAnswer::Missed(i, k) => verdict_numbers(out, 4, i, k),
+    }
+}

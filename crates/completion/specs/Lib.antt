@@ -1,3 +1,0 @@
-pub mod Ranks
-pub mod Levels
-pub mod Plan

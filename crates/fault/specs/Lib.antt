@@ -1,3 +1,0 @@
-pub mod Lowest
-pub mod Shows
-pub mod Nexts

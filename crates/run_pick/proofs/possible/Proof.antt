@@ -1,0 +1,31 @@
+-- `run_pick::possible` meets its contract: one law for each answer. Assumes nothing.
+use borrow.Author.Needs.{needs}
+use Rattle.run_pick.proofs.Laws.{can-go, can-collide, cannot}
+use Rattle.run_pick.proofs.possible.Statement.{statement}
+use Rattle.run_pick.proofs.possible.Tie as tie
+
+pick-requires : tie.Need-pick-requires
+pick-requires c κs = search needs
+
+enum-told : tie.Need-enum-told
+enum-told c = search needs
+
+enum-told-2 : tie.Need-enum-told-2
+enum-told-2 c = search needs
+
+enum-told-3 : tie.Need-enum-told-3
+enum-told-3 c = search needs
+
+returns : tie.Need-returns
+returns c = search can-go
+
+returns-2 : tie.Need-returns-2
+returns-2 c = search can-collide
+
+returns-3 : tie.Need-returns-3
+returns-3 c = search cannot
+
+pub possible-spec : {M : Type 1} → statement M
+possible-spec =
+    tie.close
+    (tie.spec pick-requires enum-told enum-told-2 enum-told-3 returns returns-2 returns-3)

@@ -1,0 +1,48 @@
+-- `run_plans::action` meets its contract: checked plans have fitting ends, and their entries are actions. Assumes nothing.
+use mathlib.Core.Path.{sym, ap, subst, _∙_}
+use Prim.Native.Nat.{ℕ, _+_, _<_}
+use native.Mathlib.Omega.{arith}
+use lib.ListN.{length, getD}
+use Rattle.semantics.specs.Task.{members, actions}
+use Rattle.run_plans.proofs.Laws.{Part, checked-part, checked-step, plan-length, plan-at}
+use Rattle.run_plans.proofs.action.Statement.{statement}
+use Rattle.run_plans.proofs.action.Tie as tie
+
+its-part : (c : tie.After-shared-slice-known3)
+    → Part (members (c .before .before .before .args .t .now)) (c .before .before .before .args .plans .now) (c .before .before .before .args .ends .now) (c .before .before .before .args .j)
+its-part c = let s = c .before .before .before in checked-part _ _ _ (s .args .j) (s .pre .0) (s .pre .1 .0)
+
+inside : (c : tie.After-beginning) → c .beginning .result + c .before .before .before .before .args .k < length (c .before .before .before .before .args .plans .now)
+inside c =
+    let s = c .before .before .before .before in
+    let p = its-part (c .before) in
+    omega (arith, p .begins, p .within, plan-length (s .args .plans .now) (s .args .ends .now) (s .args .j) p, s .pre .1 .1)
+
+beginning-requires : tie.Need-beginning-requires
+beginning-requires c κs = omega (arith, its-part c .many)
+
+add-at : tie.Need-add-at
+add-at c = omega (arith, inside c)
+
+mul-result : tie.Need-mul-result
+mul-result c = omega (arith, inside c)
+
+shared-slice-read-result : tie.Need-shared-slice-read-result
+shared-slice-read-result c = omega (arith, inside (c .before))
+
+cast-result : tie.Need-cast-result
+cast-result c = omega (arith, c .shared-slice-known4 .given (c .before .beginning .result + c .before .before .before .before .before .args .k))
+
+returns : tie.Need-returns
+returns c =
+    let s = c .before .before .before .before .before in
+    let a = s .args in
+    let same =
+    sym (plan-at (a .plans .now) (a .ends .now) (a .j) (its-part (c .before .before)) (a .k) (s .pre .1 .1)
+    ∙ ap (λ (b : ℕ). getD (a .plans .now) (b + a .k) 0) (sym (c .before .beginning .ensures))) in
+    (same, subst (λ (x : ℕ). x < actions (a .t .now)) (sym same) (checked-step (a .t .now) (a .plans .now) (a .ends .now) (a .j) (s .pre .0) (s .pre .1 .0) (a .k) (s .pre .1 .1)))
+
+pub action-spec : {M : Type 1} → statement M
+action-spec =
+    tie.close
+    (tie.spec beginning-requires add-at mul-result shared-slice-read-result cast-result returns)

@@ -1,0 +1,31 @@
+-- `run_plans::steps` meets its contract: checked plans have fitting ends. Assumes nothing.
+use native.Mathlib.Omega.{arith}
+use Rattle.semantics.specs.Task.{members}
+use Rattle.run_plans.proofs.Laws.{Part, checked-part, plan-length}
+use Rattle.run_plans.proofs.steps.Statement.{statement}
+use Rattle.run_plans.proofs.steps.Tie as tie
+
+its-part : (c : tie.After-shared-slice-known3)
+    → Part (members (c .before .before .before .args .t .now)) (c .before .before .before .args .plans .now) (c .before .before .before .args .ends .now) (c .before .before .before .args .j)
+its-part c = let s = c .before .before .before in checked-part _ _ _ (s .args .j) (s .pre .0) (s .pre .1)
+
+beginning-requires : tie.Need-beginning-requires
+beginning-requires c κs = omega (arith, its-part c .many)
+
+mul-result : tie.Need-mul-result
+mul-result c = let p = its-part (c .before) in omega (arith, p .many, p .begins, p .within)
+
+shared-slice-read-result : tie.Need-shared-slice-read-result
+shared-slice-read-result c = let p = its-part (c .before .before) in omega (arith, p .many, p .begins, p .within)
+
+sub-result : tie.Need-sub-result
+sub-result c = let p = its-part (c .before .before) in omega (arith, p .many, p .begins, p .within)
+
+returns : tie.Need-returns
+returns c =
+    let a = c .before .before .before .before .before .args in
+    omega (arith, plan-length (a .plans .now) (a .ends .now) (a .j) (its-part (c .before .before)))
+
+pub steps-spec : {M : Type 1} → statement M
+steps-spec =
+    tie.close (tie.spec beginning-requires mul-result shared-slice-read-result sub-result returns)

@@ -1,0 +1,180 @@
+-- Document 01, "Laws to try": L1 to L12 and what it says of them, as rows of one table.
+use mathlib.Core.Path.{_≡_}
+use mathlib.Core.Bool.{Bool, true, false}
+use mathlib.Core.List.{List, [], _∷_, _++_, map, flatten}
+use Prim.Native.Nat.{ℕ, _+_, _*_}
+use lib.ListN.{set}
+use lib.Dec.{eqb}
+use Rattle.semantics.specs.Base.{Answer, refused, gives}
+use Rattle.semantics.specs.Task.{rowWidth, members, check}
+use Rattle.semantics.specs.System.{system, waits}
+use Rattle.semantics.specs.Listing.{addAll}
+use Rattle.semantics.specs.Step.{Decision, go, wait, step}
+use Rattle.semantics.specs.Run.{Fault, collision, deadlock, missed, Outcome, success, failure, still-open, Replay, jointReplay}
+use Rattle.semantics.specs.Verdict.{Finding, unsolvable, notRobust, robust, Room, lentOf, localRows, configurationRows, verdict, faults, liveFor, listedIn}
+
+-- a law with word k of row r changed
+abbrev pub with : ℕ → ℕ → ℕ → List ℕ → List ℕ
+with r k w t = set t (rowWidth * r + k) w
+
+abbrev pub l1 : List ℕ
+l1 =
+    (5 ∷ 2 ∷ 4 ∷ 1 ∷ 0 ∷ [])
+    ++ (0 ∷ 5 ∷ 0 ∷ 0 ∷ 0 ∷ [])
+    ++ (1 ∷ 17 ∷ 0 ∷ 0 ∷ 0 ∷ [])
+    ++ (0 ∷ 1 ∷ 1 ∷ 2 ∷ 1 ∷ [])
+    ++ (0 ∷ 2 ∷ 0 ∷ 5 ∷ 2 ∷ [])
+    ++ (1 ∷ 1 ∷ 1 ∷ 8 ∷ 1 ∷ [])
+    ++ (1 ∷ 8 ∷ 0 ∷ 17 ∷ 8 ∷ [])
+
+-- all wait words 0
+abbrev pub l2 : List ℕ
+l2 = with 3 2 0 (with 5 2 0 l1)
+
+-- goals 4 and 16
+abbrev pub l3 : List ℕ
+l3 = with 1 1 4 (with 2 1 16 l1)
+
+-- member 1's goal 2
+abbrev pub l4 : List ℕ
+l4 = with 2 1 2 l1
+
+abbrev pub l5 : List ℕ
+l5 = (1 ∷ 1 ∷ 0 ∷ 1 ∷ 0 ∷ []) ++ (0 ∷ 1 ∷ 0 ∷ 0 ∷ 0 ∷ [])
+
+-- I = 0
+abbrev pub l6 : List ℕ
+l6 = with 0 3 0 l5
+
+abbrev pub l7 : List ℕ
+l7 =
+    (2 ∷ 2 ∷ 2 ∷ 0 ∷ 0 ∷ [])
+    ++ (0 ∷ 1 ∷ 0 ∷ 0 ∷ 0 ∷ [])
+    ++ (1 ∷ 2 ∷ 0 ∷ 0 ∷ 0 ∷ [])
+    ++ (0 ∷ 0 ∷ 0 ∷ 1 ∷ 0 ∷ [])
+    ++ (1 ∷ 0 ∷ 0 ∷ 2 ∷ 1 ∷ [])
+
+abbrev pub l8 : List ℕ
+l8 =
+    (2 ∷ 2 ∷ 2 ∷ 1 ∷ 0 ∷ [])
+    ++ (0 ∷ 1 ∷ 0 ∷ 0 ∷ 0 ∷ [])
+    ++ (1 ∷ 1 ∷ 0 ∷ 0 ∷ 0 ∷ [])
+    ++ (0 ∷ 0 ∷ 0 ∷ 2 ∷ 1 ∷ [])
+    ++ (1 ∷ 1 ∷ 0 ∷ 1 ∷ 0 ∷ [])
+
+-- goal 32
+abbrev pub l11 : List ℕ
+l11 = with 1 1 32 l1
+
+-- the last action replaced
+abbrev pub l12 : List ℕ
+l12 = with 6 0 0 (with 6 1 1 (with 6 2 2 (with 6 3 0 (with 6 4 0 l1))))
+
+-- ---- what the paper says of them
+
+-- a row of the table: a law's verdict with so many local and configuration words, the other slices as long as asked; a replay's
+-- answer; the configurations that are listed; the faults that they show; the task check's refusal; a step's answer
+pub data Claim : Type 0 where
+  verdictOf : List ℕ → ℕ → ℕ → Answer Finding → Claim
+  replayOf : List ℕ → List ℕ → List ℕ → List ℕ → Answer (Replay ℕ) → Claim
+  listedOf : List ℕ → List (List ℕ) → Claim
+  shownOf : List ℕ → List Fault → Claim
+  checkOf : List ℕ → ℕ → Claim
+  stepOf : List ℕ → ℕ → ℕ → Answer (Decision ℕ) → Claim
+
+-- the lengths asked for
+abbrev pub roomFor : List ℕ → ℕ → ℕ → Room
+roomFor t localWords words =
+    let K = localRows t localWords in
+    let C = configurationRows t words in
+    lentOf localWords (members t * K) words (2 * C) (C + members t * K) (members t) C
+
+-- room enough for each of these laws: 8 local copies a member, 16 configurations
+abbrev pub plenty : ℕ
+plenty = 48
+
+abbrev pub sameFault : Fault → Fault → Bool
+sameFault collision collision = true
+sameFault collision deadlock = false
+sameFault collision (missed j) = false
+sameFault deadlock collision = false
+sameFault deadlock deadlock = true
+sameFault deadlock (missed j) = false
+sameFault (missed i) collision = false
+sameFault (missed i) deadlock = false
+sameFault (missed i) (missed j) = eqb i j
+
+-- the faults that the listed configurations show, each once, in the order of the list
+abbrev pub shownIn : List ℕ → Room → List Fault
+shownIn t room = addAll sameFault [] (flatten (map (faults (system t) (waits t) (liveFor t room)) (listedIn t room)))
+
+abbrev pub Holds : Claim → Type 0
+Holds (verdictOf t localWords words v) = verdict t (roomFor t localWords words) ≡ v
+Holds (replayOf t plans ends picks r) = jointReplay t plans ends picks ≡ r
+Holds (listedOf t rows) = listedIn t (roomFor t plenty plenty) ≡ rows
+Holds (shownOf t fs) = shownIn t (roomFor t plenty plenty) ≡ fs
+Holds (checkOf t k) = check t ≡ k
+Holds (stepOf t a g d) = step t a g ≡ d
+
+abbrev pub AllHold : List Claim → Type 0
+AllHold [] = Unit {0}
+AllHold (c ∷ cs) = Holds c × AllHold cs
+
+abbrev pub ends : Outcome → ℕ → ℕ → Answer (Replay ℕ)
+ends o g k = gives (record { outcome = o; shared = g; picked = k })
+
+abbrev pub table : List Claim
+table =
+    verdictOf l1 plenty plenty (gives (robust 12))
+    ∷ shownOf l1 []
+    ∷ verdictOf l2 plenty plenty (gives (notRobust tt))
+    ∷ shownOf l2 (collision ∷ [])
+    ∷ replayOf l2 (0 ∷ 1 ∷ 2 ∷ 3 ∷ []) (2 ∷ 4 ∷ []) (0 ∷ 1 ∷ []) (ends (failure collision) 2 1)
+    ∷ verdictOf l3 plenty plenty (gives (notRobust tt))
+    ∷ shownOf l3 (deadlock ∷ [])
+    ∷ replayOf l3 (0 ∷ 1 ∷ 0 ∷ 2 ∷ 3 ∷ []) (3 ∷ 5 ∷ []) (0 ∷ 0 ∷ 0 ∷ []) (ends (failure deadlock) 6 3)
+    ∷ verdictOf l4 plenty plenty (gives (unsolvable 1))
+    ∷ verdictOf l5 plenty plenty (gives (robust 1))
+    ∷ verdictOf l6 plenty plenty (gives (unsolvable 0))
+    ∷ verdictOf l7 plenty plenty (gives (notRobust tt))
+    ∷ shownOf l7 (missed 0 ∷ [])
+    ∷ replayOf l7 (0 ∷ 1 ∷ []) (1 ∷ 2 ∷ []) (0 ∷ 1 ∷ []) (ends (failure (missed 0)) 2 2)
+    ∷ replayOf l7 (0 ∷ 1 ∷ []) (1 ∷ 2 ∷ []) (1 ∷ 0 ∷ []) (ends success 3 2)
+    ∷ listedOf l7 ((0 ∷ 0 ∷ 0 ∷ []) ∷ (1 ∷ 0 ∷ 1 ∷ []) ∷ (0 ∷ 2 ∷ 2 ∷ []) ∷ (1 ∷ 2 ∷ 2 ∷ []) ∷ (1 ∷ 2 ∷ 3 ∷ []) ∷ [])
+    ∷ verdictOf l8 plenty plenty (gives (robust 1))
+    ∷ verdictOf l1 plenty 35 (refused 9)
+    ∷ verdictOf l1 plenty 36 (gives (robust 12))
+    ∷ verdictOf l1 7 plenty (refused 9)
+    ∷ verdictOf l1 8 plenty (gives (robust 12))
+    ∷ verdictOf l11 plenty plenty (refused 4)
+    ∷ verdictOf l12 plenty plenty (refused 6)
+    ∷ []
+
+-- further rows: steps, and which of two refusals stands first
+abbrev pub further : List Claim
+further =
+    stepOf l1 0 1 (gives (go 2))
+    ∷ stepOf l1 0 0 (gives wait)
+    ∷ stepOf l2 0 0 (gives Decision.collision)
+    -- a fact in both add and del ends true
+    ∷ stepOf (with 3 3 3 l1) 0 1 (gives (go 3))
+    ∷ stepOf l1 4 32 (refused 7)
+    ∷ stepOf l1 0 32 (refused 4)
+    ∷ checkOf (5 ∷ 2 ∷ 4 ∷ 1 ∷ []) 1
+    ∷ checkOf (with 0 0 65 l1 ++ (0 ∷ [])) 2
+    ∷ checkOf (with 0 3 32 l1 ++ (0 ∷ [])) 1
+    ∷ checkOf (with 0 3 32 (with 1 0 9 l1)) 4
+    ∷ checkOf (with 1 0 9 (with 1 1 32 l1)) 3
+    ∷ checkOf (with 1 1 32 (with 2 0 9 l1)) 4
+    ∷ checkOf (with 2 1 32 (with 3 0 2 l1)) 4
+    ∷ checkOf (with 3 0 2 (with 3 1 32 l1)) 5
+    ∷ checkOf (with 3 2 32 l1) 4
+    ∷ checkOf (with 3 2 2 (with 4 0 2 l1)) 6
+    ∷ replayOf l1 (9 ∷ []) (1 ∷ []) [] (refused 11)
+    ∷ replayOf l1 (9 ∷ []) (0 ∷ 1 ∷ []) [] (refused 12)
+    ∷ replayOf l1 (0 ∷ 9 ∷ 2 ∷ []) (2 ∷ 3 ∷ []) [] (refused 7)
+    ∷ replayOf l1 (2 ∷ 9 ∷ []) (2 ∷ 2 ∷ []) [] (refused 10)
+    ∷ replayOf l1 (0 ∷ 1 ∷ 2 ∷ 3 ∷ []) (2 ∷ 4 ∷ []) (2 ∷ 0 ∷ []) (refused 8)
+    ∷ replayOf l1 (0 ∷ 1 ∷ 2 ∷ 3 ∷ []) (2 ∷ 4 ∷ []) (0 ∷ 1 ∷ 2 ∷ []) (refused 13)
+    ∷ replayOf l1 (0 ∷ 1 ∷ 2 ∷ 3 ∷ []) (2 ∷ 4 ∷ []) (0 ∷ []) (ends still-open 2 1)
+    ∷ []

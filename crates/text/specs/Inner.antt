@@ -1,0 +1,4 @@
+-- Inner invariants: no promise of the public functions.
+pub mod Byte
+pub mod Place
+pub mod Written
