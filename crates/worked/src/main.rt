@@ -1,4 +1,7 @@
-// Runs the paper's worked laws through the operations and prints what they answer, one line an answer.
+// Runs the paper's worked laws through the operations and prints what they answer, one line an
+// answer.
+ghost use Prim.Native.Nat.{_≤_};
+ghost use lib.ListN.{length};
 use mask::Shared;
 use run_pick::Answer;
 use run_pick::Outcome;
@@ -9,103 +12,89 @@ use solo_replay::Solo;
 use solo_search::SearchAnswer;
 use step::Decision;
 use step::Stepped;
+use text::Scan;
 use verdict::VerdictAnswer;
 
-const L1: [u64; 35] = [
-    5,
-    2,
-    4,
-    1,
-    0,
-    0,
-    5,
-    0,
-    0,
-    0,
-    1,
-    17,
-    0,
-    0,
-    0,
-    0,
-    1,
-    1,
-    2,
-    1,
-    0,
-    2,
-    0,
-    5,
-    2,
-    1,
-    1,
-    1,
-    8,
-    1,
-    1,
-    8,
-    0,
-    17,
-    8,
-];
+// Fields of a record, the most records, and their words.
+const FIELDS: usize = 5;
 
-const L5: [u64; 10] = [1, 1, 0, 1, 0, 0, 1, 0, 0, 0];
+const RECORDS: usize = 265;
 
-const L7: [u64; 25] = [
-    2,
-    2,
-    2,
-    0,
-    0,
-    0,
-    1,
-    0,
-    0,
-    0,
-    1,
-    2,
-    0,
-    0,
-    0,
-    0,
-    0,
-    0,
-    1,
-    0,
-    1,
-    0,
-    0,
-    2,
-    1,
-];
+const WORDS: usize = FIELDS * RECORDS;
 
-const L8: [u64; 25] = [
-    2,
-    2,
-    2,
-    1,
-    0,
-    0,
-    1,
-    0,
-    0,
-    0,
-    1,
-    1,
-    0,
-    0,
-    0,
-    0,
-    0,
-    0,
-    2,
-    1,
-    1,
-    1,
-    0,
-    1,
-    0,
-];
+// ---- the laws
+
+// The words of a text at the front of the slice, and their number.
+fn words_of(text: &[u8], words: &mut [u64; WORDS]) -> usize
+    ensures { λ r. ⌜ r ≤ length (now (words .exit)) ⌝ }
+{
+    let scan = text::scan_text(text, words, FIELDS, RECORDS);
+    match scan {
+        Scan::Records(n) => FIELDS * n,
+        Scan::Bad => 0,
+    }
+}
+
+// L1, and L1 changed; L9 and L10 are L1 with tables of their own.
+fn like_l1(number: u64, words: &mut [u64; WORDS]) -> usize
+    ensures { λ r. ⌜ r ≤ length (now (words .exit)) ⌝ }
+{
+    match number {
+        2 => words_of(
+            b"5,2,4,1,0\r\n0,5,0,0,0\r\n1,17,0,0,0\r\n\
+              0,1,0,2,1\r\n0,2,0,5,2\r\n1,1,0,8,1\r\n1,8,0,17,8\r\n",
+            words,
+        ),
+        3 => words_of(
+            b"5,2,4,1,0\r\n0,4,0,0,0\r\n1,16,0,0,0\r\n\
+              0,1,1,2,1\r\n0,2,0,5,2\r\n1,1,1,8,1\r\n1,8,0,17,8\r\n",
+            words,
+        ),
+        4 => words_of(
+            b"5,2,4,1,0\r\n0,5,0,0,0\r\n1,2,0,0,0\r\n\
+              0,1,1,2,1\r\n0,2,0,5,2\r\n1,1,1,8,1\r\n1,8,0,17,8\r\n",
+            words,
+        ),
+        11 => words_of(
+            b"5,2,4,1,0\r\n0,32,0,0,0\r\n1,17,0,0,0\r\n\
+              0,1,1,2,1\r\n0,2,0,5,2\r\n1,1,1,8,1\r\n1,8,0,17,8\r\n",
+            words,
+        ),
+        12 => words_of(
+            b"5,2,4,1,0\r\n0,5,0,0,0\r\n1,17,0,0,0\r\n\
+              0,1,1,2,1\r\n0,2,0,5,2\r\n1,1,1,8,1\r\n0,1,2,0,0\r\n",
+            words,
+        ),
+        _ => words_of(
+            b"5,2,4,1,0\r\n0,5,0,0,0\r\n1,17,0,0,0\r\n\
+              0,1,1,2,1\r\n0,2,0,5,2\r\n1,1,1,8,1\r\n1,8,0,17,8\r\n",
+            words,
+        ),
+    }
+}
+
+// The words of the law with this number.
+fn law(number: u64, words: &mut [u64; WORDS]) -> usize
+    ensures { λ r. ⌜ r ≤ length (now (words .exit)) ⌝ }
+{
+    match number {
+        5 => words_of(b"1,1,0,1,0\r\n0,1,0,0,0\r\n", words),
+        6 => words_of(b"1,1,0,0,0\r\n0,1,0,0,0\r\n", words),
+        7 => words_of(
+            b"2,2,2,0,0\r\n0,1,0,0,0\r\n1,2,0,0,0\r\n\
+              0,0,0,1,0\r\n1,0,0,2,1\r\n",
+            words,
+        ),
+        8 => words_of(
+            b"2,2,2,1,0\r\n0,1,0,0,0\r\n1,1,0,0,0\r\n\
+              0,0,0,2,1\r\n1,1,0,1,0\r\n",
+            words,
+        ),
+        _ => like_l1(number, words),
+    }
+}
+
+// ---- lines
 
 fn say(text: &[u8]) {
     let _written = io::write_all(1, text);
@@ -117,8 +106,29 @@ fn number(n: u64) {
     let _written = io::print_decimal(1, n);
 }
 
+fn say_number(text: &[u8], n: u64) {
+    say(text);
+    number(n);
+}
+
 fn end() {
     say(b"\n");
+}
+
+fn line(text: &[u8], n: u64) {
+    say_number(text, n);
+    end();
+}
+
+fn refused(k: u64) {
+    line(b" refused", k);
+}
+
+// The law's name, and what is asked of it.
+fn asked(law: u64, text: &[u8]) {
+    say(b"L");
+    let _written = io::print_decimal(1, law);
+    say(text);
 }
 
 fn words(xs: &[u64]) {
@@ -153,108 +163,97 @@ fn shorts(xs: &[u16]) {
     }
 }
 
-fn refused(k: u64) {
-    say(b" refused");
-    number(k);
-    end();
+// ---- the operations
+
+fn show_check(law: u64, t: &[u64]) {
+    asked(law, b" task check:");
+    line(b"", task::check(t));
 }
 
-fn show_check(name: &[u8], t: &[u64]) {
-    say(name);
-    say(b" task check:");
-    number(task::check(t));
-    end();
+fn show_decision(d: Decision) {
+    match d {
+        Decision::Go(next) => line(b" go", mask::to_word(next.0)),
+        Decision::Wait => say(b" wait\n"),
+        Decision::Collision => say(b" collision\n"),
+    }
 }
 
-fn show_step(name: &[u8], t: &[u64], action: u16, g: u64) {
-    say(name);
-    say(b" step");
+fn show_step(law: u64, t: &[u64], action: u16, g: u64) {
+    asked(law, b" step");
     number(action as u64);
-    say(b" at");
-    number(g);
+    say_number(b" at", g);
     say(b":");
     let s = step::step(t, action, Shared(mask::of_word(g)));
     match s {
         Stepped::Refused(k) => refused(k),
-        Stepped::Gives(d) => match d {
-            Decision::Go(next) => {
-                say(b" go");
-                number(mask::to_word(next.0));
-                end();
-            }
-            Decision::Wait => say(b" wait\n"),
-            Decision::Collision => say(b" collision\n"),
-        },
+        Stepped::Gives(d) => show_decision(d),
     }
 }
 
-fn show_solo(name: &[u8], t: &[u64], member: u8, plan: &[u16]) {
-    say(name);
-    say(b" solo replay of member");
+fn show_solved(s: Solo) {
+    match s {
+        Solo::Solves => say(b" solves\n"),
+        Solo::Breaks(k) => line(b" breaks at", k as u64),
+        Solo::Short => say(b" short\n"),
+    }
+}
+
+fn show_solo(law: u64, t: &[u64], member: u8, plan: &[u16]) {
+    asked(law, b" solo replay of member");
     number(member as u64);
     say(b":");
     let r = solo_replay::solo_replay(t, member, plan);
     match r {
         Solved::Refused(k) => refused(k),
-        Solved::Gives(s) => match s {
-            Solo::Solves => say(b" solves\n"),
-            Solo::Breaks(k) => {
-                say(b" breaks at");
-                number(k as u64);
-                end();
-            }
-            Solo::Short => say(b" short\n"),
-        },
+        Solved::Gives(s) => show_solved(s),
     }
 }
 
-fn show_search(name: &[u8], t: &[u64], member: u8, table: &mut [u64], marks: &mut [u8]) {
-    say(name);
-    say(b" solo search of member");
+fn show_found(count: usize, live: bool, table: &[u64], marks: &[u8]) {
+    number(count as u64);
+    if live {
+        say(b" live;")
+    } else {
+        say(b" dead;")
+    }
+    words(table);
+    say(b" marks");
+    bytes(marks);
+    end();
+}
+
+fn show_search(law: u64, t: &[u64], member: u8, table: &mut [u64], marks: &mut [u8]) {
+    asked(law, b" solo search of member");
     number(member as u64);
     say(b":");
     let r = solo_search::solo_search(t, member, table, marks);
     match r {
         SearchAnswer::Refused(k) => refused(k),
-        SearchAnswer::Found(count, live) => {
-            number(count as u64);
-            if live {
-                say(b" live;")
-            } else {
-                say(b" dead;")
-            }
-            words(table);
-            say(b" marks");
-            bytes(marks);
-            end();
-        }
+        SearchAnswer::Found(count, live) => show_found(count, live, table, marks),
     }
 }
 
-fn show_replay(name: &[u8], t: &[u64], plans: &[u16], ends: &[u64], picks: &[u8]) {
-    say(name);
-    say(b" joint replay:");
+fn show_outcome(outcome: Outcome) {
+    match outcome {
+        Outcome::Success => say(b" success"),
+        Outcome::Collision => say(b" collision"),
+        Outcome::Deadlock => say(b" deadlock"),
+        Outcome::Missed(j) => say_number(b" missed", j as u64),
+        Outcome::Open => say(b" open"),
+    }
+}
+
+fn show_replay(law: u64, t: &[u64], plans: &[u16], ends: &[u64], picks: &[u8]) {
+    asked(law, b" joint replay:");
     let r = run_replay::joint_replay(t, plans, ends, picks);
     match r {
         Replayed::Refused(k) => refused(k),
         Replayed::Gives(e) => {
             let outcome = e.outcome;
-            match outcome {
-                Outcome::Success => say(b" success"),
-                Outcome::Collision => say(b" collision"),
-                Outcome::Deadlock => say(b" deadlock"),
-                Outcome::Missed(j) => {
-                    say(b" missed");
-                    number(j as u64);
-                }
-                Outcome::Open => say(b" open"),
-            }
-            say(b", shared");
+            show_outcome(outcome);
             let g = e.shared;
-            number(mask::to_word(g.0));
-            say(b", picks");
-            number(e.picked as u64);
-            end();
+            say_number(b", shared", mask::to_word(g.0));
+            line(b", picks", e.picked as u64);
         }
     }
 }
@@ -263,21 +262,16 @@ fn show_answer_of(a: Answer) {
     match a {
         Answer::Go => say(b" go"),
         Answer::Collision => say(b" collision"),
-        Answer::Refused(k) => {
-            say(b" refused");
-            number(k);
-        }
+        Answer::Refused(k) => say_number(b" refused", k),
     }
 }
 
 // Of the places, those of two members.
 fn show_run(run: Run) {
-    say(b" shared");
     let g = run.shared;
-    number(mask::to_word(g.0));
-    say(b", places");
+    say_number(b" shared", mask::to_word(g.0));
     let p = run.places;
-    number(p[0]);
+    say_number(b", places", p[0]);
     number(p[1]);
     if run.collided {
         say(b", collided")
@@ -299,17 +293,21 @@ fn show_each(t: &[u64], plans: &[u16], ends: &[u64], first: Run, picks: &[u8]) -
     run
 }
 
-// The dispatcher from the start: pick by pick, then the list of picks at once.
-fn show_dispatcher(name: &[u8], t: &[u64], plans: &[u16], ends: &[u64], picks: &[u8]) {
+// The dispatcher from the start, pick by pick.
+fn show_picks(law: u64, t: &[u64], plans: &[u16], ends: &[u64], picks: &[u8]) {
     let s = run_dispatch::start(t);
     let first = s.run;
-    say(name);
-    say(b" dispatcher:");
+    asked(law, b" dispatcher:");
     let last = show_each(t, plans, ends, first, picks);
     say(b";");
     show_run(last);
-    say(name);
-    say(b" dispatcher, the list:");
+}
+
+// The dispatcher from the start, the list of picks at once.
+fn show_list(law: u64, t: &[u64], plans: &[u16], ends: &[u64], picks: &[u8]) {
+    let s = run_dispatch::start(t);
+    let first = s.run;
+    asked(law, b" dispatcher, the list:");
     let p = run_dispatch::play(t, plans, ends, first, picks);
     if p.refusal != 0 {
         refused(p.refusal);
@@ -320,14 +318,15 @@ fn show_dispatcher(name: &[u8], t: &[u64], plans: &[u16], ends: &[u64], picks: &
 }
 
 // The same picks by joint replay and by the dispatcher.
-fn show_runs(name: &[u8], t: &[u64], plans: &[u16], ends: &[u64], picks: &[u8]) {
-    show_replay(name, t, plans, ends, picks);
-    show_dispatcher(name, t, plans, ends, picks);
+fn show_runs(law: u64, t: &[u64], plans: &[u16], ends: &[u64], picks: &[u8]) {
+    show_replay(law, t, plans, ends, picks);
+    show_picks(law, t, plans, ends, picks);
+    show_list(law, t, plans, ends, picks);
 }
 
-fn show_pick(name: &[u8], t: &[u64], plans: &[u16], ends: &[u64], member: u8) {
-    say(name);
-    say(b" pick of member");
+// A pick at the start, where fact 0 holds.
+fn show_pick(law: u64, t: &[u64], plans: &[u16], ends: &[u64], member: u8) {
+    asked(law, b" pick of member");
     number(member as u64);
     say(b" at the start:");
     let start = Run {
@@ -343,9 +342,7 @@ fn show_pick(name: &[u8], t: &[u64], plans: &[u16], ends: &[u64], member: u8) {
         Answer::Go => {
             let after = p.run;
             let g = after.shared;
-            say(b" go");
-            number(mask::to_word(g.0));
-            end();
+            line(b" go", mask::to_word(g.0));
         }
     }
 }
@@ -353,43 +350,35 @@ fn show_pick(name: &[u8], t: &[u64], plans: &[u16], ends: &[u64], member: u8) {
 // The kind and number of a verdict.
 fn show_answer(v: VerdictAnswer) {
     match v {
-        VerdictAnswer::Refused(k) => {
-            say(b" refused");
-            number(k);
-        }
-        VerdictAnswer::Unsolvable(i) => {
-            say(b" unsolvable");
-            number(i as u64);
-        }
-        VerdictAnswer::Collision(k) => {
-            say(b" collision");
-            number(k as u64);
-        }
-        VerdictAnswer::Deadlock(k) => {
-            say(b" deadlock");
-            number(k as u64);
-        }
+        VerdictAnswer::Refused(k) => say_number(b" refused", k),
+        VerdictAnswer::Unsolvable(i) => say_number(b" unsolvable", i as u64),
+        VerdictAnswer::Collision(k) => say_number(b" collision", k as u64),
+        VerdictAnswer::Deadlock(k) => say_number(b" deadlock", k as u64),
         VerdictAnswer::Missed(i, k) => {
-            say(b" missed");
-            number(i as u64);
-            say(b" after");
-            number(k as u64);
+            say_number(b" missed", i as u64);
+            say_number(b" after", k as u64);
         }
-        VerdictAnswer::Robust(count) => {
-            say(b" robust");
-            number(count as u64);
-        }
+        VerdictAnswer::Robust(count) => say_number(b" robust", count as u64),
     }
 }
 
-// The verdict with so many local words and configuration words, then the first plan entries, ends and picks.
-fn show_verdict(name: &[u8], t: &[u64], local: &mut [u64], confs: &mut [u64]) {
+fn show_conflict(plans: &[u16], ends: &[u64], picks: &[u8]) {
+    say(b"; plans");
+    shorts(plans);
+    say(b" ends");
+    words(ends);
+    say(b" picks");
+    bytes(picks);
+    end();
+}
+
+// The verdict with these two tables, and the first entries of the conflict slices.
+fn show_verdict(t: &[u64], local: &mut [u64], confs: &mut [u64]) {
     let mut marks = [7; 48];
     let mut trail = [7; 96];
     let mut plans = [7; 96];
     let mut ends = [7; 8];
     let mut picks = [7; 48];
-    say(name);
     say(b" verdict:");
     let v = verdict::verdict(
         t,
@@ -402,130 +391,154 @@ fn show_verdict(name: &[u8], t: &[u64], local: &mut [u64], confs: &mut [u64]) {
         &mut picks,
     );
     show_answer(v);
-    say(b"; plans");
-    shorts(&plans[0..6]);
-    say(b" ends");
-    words(&ends[0..2]);
-    say(b" picks");
-    bytes(&picks[0..4]);
-    end();
+    show_conflict(&plans[0..6], &ends[0..2], &picks[0..4]);
 }
 
-fn verdicts() {
-    let mut local = [7; 48];
-    let mut confs = [7; 48];
-    let l1 = L1;
-    show_verdict(b"L1", &l1, &mut local, &mut confs);
-    let mut l2 = L1;
-    l2[17] = 0;
-    l2[27] = 0;
-    show_verdict(b"L2", &l2, &mut local, &mut confs);
-    let mut l3 = L1;
-    l3[6] = 4;
-    l3[11] = 16;
-    show_verdict(b"L3", &l3, &mut local, &mut confs);
-    let mut l4 = L1;
-    l4[11] = 2;
-    show_verdict(b"L4", &l4, &mut local, &mut confs);
-    let l5 = L5;
-    show_verdict(b"L5", &l5, &mut local, &mut confs);
-    let mut l6 = L5;
-    l6[3] = 0;
-    show_verdict(b"L6", &l6, &mut local, &mut confs);
-    let l7 = L7;
-    show_verdict(b"L7", &l7, &mut local, &mut confs);
-    let l8 = L8;
-    show_verdict(b"L8", &l8, &mut local, &mut confs);
+// ---- the laws through the operations
+
+fn steps_of_l1(t: &[u64]) {
+    show_check(1, t);
+    show_step(1, t, 0, 1);
+    show_step(1, t, 0, 0);
+    show_step(1, t, 1, 1);
+    show_step(1, t, 4, 1);
+    show_step(1, t, 0, 32);
 }
 
-// L9 and L10: L1 at the edges of its tables.
-fn edges() {
-    let t = L1;
-    let mut local = [7; 48];
-    let mut confs = [7; 48];
-    let mut short = [7; 35];
-    let mut enough = [7; 36];
-    show_verdict(b"L9, 35 words,", &t, &mut local, &mut short);
-    show_verdict(b"L9, 36 words,", &t, &mut local, &mut enough);
-    let mut few = [7; 7];
-    let mut eight = [7; 8];
-    show_verdict(b"L10, 7 words,", &t, &mut few, &mut confs);
-    show_verdict(b"L10, 8 words,", &t, &mut eight, &mut confs);
+fn plans_of_l1(t: &[u64]) {
+    show_solo(1, t, 0, &[0, 1]);
+    show_solo(1, t, 0, &[0, 0]);
+    show_solo(1, t, 0, &[0]);
+    show_solo(1, t, 0, &[2]);
+    show_solo(1, t, 2, &[0]);
 }
 
-fn first() {
-    let t = L1;
-    show_check(b"L1", &t);
-    show_step(b"L1", &t, 0, 1);
-    show_step(b"L1", &t, 0, 0);
-    show_step(b"L1", &t, 1, 1);
-    show_step(b"L1", &t, 4, 1);
-    show_step(b"L1", &t, 0, 32);
-    show_solo(b"L1", &t, 0, &[0, 1]);
-    show_solo(b"L1", &t, 0, &[0, 0]);
-    show_solo(b"L1", &t, 0, &[0]);
-    show_solo(b"L1", &t, 0, &[2]);
-    show_solo(b"L1", &t, 2, &[0]);
+fn copies_of_l1(t: &[u64]) {
     let mut table = [7; 4];
     let mut marks = [7; 5];
-    show_search(b"L1", &t, 0, &mut table, &mut marks);
+    show_search(1, t, 0, &mut table, &mut marks);
     let mut short = [7; 3];
-    show_search(b"L1", &t, 0, &mut short, &mut marks);
-    show_pick(b"L1", &t, &[0, 1, 2, 3], &[2, 4], 0);
-    show_pick(b"L1", &t, &[0, 1, 2, 3], &[2, 4], 2);
-    show_runs(b"L1", &t, &[0, 1, 2, 3], &[2, 4], &[0, 0, 1, 1]);
-    show_runs(b"L1", &t, &[0, 1, 2, 3], &[2, 4], &[0]);
-    show_runs(b"L1", &t, &[0, 1, 2, 3], &[2, 4], &[0, 1]);
+    show_search(1, t, 0, &mut short, &mut marks);
 }
 
-fn changed() {
-    let mut l2 = L1;
-    l2[17] = 0;
-    l2[27] = 0;
-    show_check(b"L2", &l2);
-    show_runs(b"L2", &l2, &[0, 1, 2, 3], &[2, 4], &[0, 1]);
-    show_runs(b"L2", &l2, &[0, 2, 3], &[1, 3], &[0, 1]);
-    let mut l3 = L1;
-    l3[6] = 4;
-    l3[11] = 16;
-    show_runs(b"L3", &l3, &[0, 1, 0, 2, 3], &[3, 5], &[0, 0, 0]);
-    let mut l4 = L1;
-    l4[11] = 2;
-    let mut table = [7; 4];
-    let mut marks = [7; 4];
-    show_search(b"L4", &l4, 1, &mut table, &mut marks);
-    let mut l11 = L1;
-    l11[6] = 32;
-    show_check(b"L11", &l11);
-    let mut l12 = L1;
-    l12[30] = 0;
-    l12[31] = 1;
-    l12[32] = 2;
-    l12[33] = 0;
-    l12[34] = 0;
-    show_check(b"L12", &l12);
+fn runs_of_l1(t: &[u64]) {
+    show_pick(1, t, &[0, 1, 2, 3], &[2, 4], 0);
+    show_pick(1, t, &[0, 1, 2, 3], &[2, 4], 2);
+    show_runs(1, t, &[0, 1, 2, 3], &[2, 4], &[0, 0, 1, 1]);
+    show_runs(1, t, &[0, 1, 2, 3], &[2, 4], &[0]);
+    show_runs(1, t, &[0, 1, 2, 3], &[2, 4], &[0, 1]);
 }
 
-fn others() {
-    let l5 = L5;
-    show_check(b"L5", &l5);
-    show_solo(b"L5", &l5, 0, &[]);
-    let mut l6 = L5;
-    l6[3] = 0;
-    show_solo(b"L6", &l6, 0, &[]);
-    let l7 = L7;
-    show_runs(b"L7", &l7, &[0, 1], &[1, 2], &[0, 1]);
-    show_runs(b"L7", &l7, &[0, 1], &[1, 2], &[1, 0]);
-    let l8 = L8;
+fn on_l1(t: &[u64]) {
+    steps_of_l1(t);
+    plans_of_l1(t);
+    copies_of_l1(t);
+    runs_of_l1(t);
+}
+
+fn on_l2(t: &[u64]) {
+    show_check(2, t);
+    show_runs(2, t, &[0, 1, 2, 3], &[2, 4], &[0, 1]);
+    show_runs(2, t, &[0, 2, 3], &[1, 3], &[0, 1]);
+}
+
+fn on_l3(t: &[u64]) {
+    show_runs(3, t, &[0, 1, 0, 2, 3], &[3, 5], &[0, 0, 0]);
+}
+
+fn on_l5(t: &[u64]) {
+    show_check(5, t);
+    show_solo(5, t, 0, &[]);
+}
+
+fn on_l7(t: &[u64]) {
+    show_runs(7, t, &[0, 1], &[1, 2], &[0, 1]);
+    show_runs(7, t, &[0, 1], &[1, 2], &[1, 0]);
+}
+
+fn copies_of(law: u64, t: &[u64], member: u8) {
     let mut table = [7; 4];
     let mut marks = [7; 4];
-    show_search(b"L8", &l8, 0, &mut table, &mut marks);
+    show_search(law, t, member, &mut table, &mut marks);
+}
+
+// What is asked of a law below the verdict.
+fn show_operations(law: u64, t: &[u64]) {
+    match law {
+        1 => on_l1(t),
+        2 => on_l2(t),
+        3 => on_l3(t),
+        4 => copies_of(4, t, 1),
+        5 => on_l5(t),
+        6 => show_solo(6, t, 0, &[]),
+        7 => on_l7(t),
+        8 => copies_of(8, t, 0),
+        _ => show_check(law, t),
+    }
+}
+
+// L1 at the edge of its configuration table.
+fn on_l9(t: &[u64]) {
+    let mut local = [7; 48];
+    let mut short = [7; 35];
+    let mut enough = [7; 36];
+    asked(9, b", 35 words,");
+    show_verdict(t, &mut local, &mut short);
+    asked(9, b", 36 words,");
+    show_verdict(t, &mut local, &mut enough);
+}
+
+// L1 at the edge of its local table.
+fn on_l10(t: &[u64]) {
+    let mut confs = [7; 48];
+    let mut short = [7; 7];
+    let mut enough = [7; 8];
+    asked(10, b", 7 words,");
+    show_verdict(t, &mut short, &mut confs);
+    asked(10, b", 8 words,");
+    show_verdict(t, &mut enough, &mut confs);
+}
+
+fn verdict_of(law: u64, t: &[u64]) {
+    let mut local = [7; 48];
+    let mut confs = [7; 48];
+    asked(law, b"");
+    show_verdict(t, &mut local, &mut confs);
+}
+
+fn show_verdicts(law: u64, t: &[u64]) {
+    match law {
+        9 => on_l9(t),
+        10 => on_l10(t),
+        _ => verdict_of(law, t),
+    }
+}
+
+fn show_words(law: u64, t: &[u64], verdict: bool) {
+    if verdict {
+        show_verdicts(law, t)
+    } else {
+        show_operations(law, t)
+    }
+}
+
+// A law, from its text: its verdict, or the operations below.
+fn show(number: u64, verdict: bool) {
+    let mut words = [0; WORDS];
+    let n = law(number, &mut words);
+    show_words(number, &words[..n], verdict);
+}
+
+// The laws from one number up to another.
+fn show_laws(first: u64, last: u64, verdict: bool) {
+    for number in first..last {
+        show(number, verdict);
+    }
 }
 
 fn main() {
-    first();
-    changed();
-    others();
-    verdicts();
-    edges();
+    show_laws(1, 5, false);
+    show_laws(11, 13, false);
+    show_laws(5, 9, false);
+    show_laws(1, 11, true);
 }
