@@ -186,7 +186,8 @@ uint64_t lawcheck_start(const uint64_t *task, size_t task_len, uint64_t *run, si
  *
  * Each pick meets the run as the last one left it. One that is not possible is passed over and changes nothing.
  * answers has a number for each pick: 0 go, 1 collision, or the refusal that lawcheck_pick has for it there,
- * 8 no such member or 13 (no step left, waiting, or already collided); the rest of it stays as it was.
+ * 8 no such member or 13 (no step left, waiting, or already collided); the rest of it stays as it was. Of the
+ * run afterwards the first word is 1 where it has collided, whatever was there before, else 0.
  * Refuses with 14 where run_len is below 10 or answers_len below picks_len; as lawcheck_pick up to 11, a place
  * past its plan's end.
  */

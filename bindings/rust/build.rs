@@ -1,5 +1,6 @@
 //! Links the static library of the C interface: the archive that LAWCHECK_LIBRARY names (as an installed
-//! `liblawcheck.a`), or the repository's `target/staticlib/libcapi.a`. With the feature `unlinked` nothing.
+//! `liblawcheck.a`), or the repository's `target/staticlib/libcapi.a`. With the feature `unlinked` nothing; a
+//! build that names a library refuses that feature, so that nothing else stands in the library's place.
 
 use std::env;
 use std::path::{Path, PathBuf};
@@ -7,10 +8,16 @@ use std::process::exit;
 
 fn main() {
     println!("cargo::rerun-if-env-changed=LAWCHECK_LIBRARY");
+    let named = env::var_os("LAWCHECK_LIBRARY");
     if env::var_os("CARGO_FEATURE_UNLINKED").is_some() {
+        if named.is_some() {
+            eprintln!("error: LAWCHECK_LIBRARY names a library, and the feature unlinked links none.");
+            eprintln!("Build without the feature (mock turns it on), or without the variable.");
+            exit(1);
+        }
         return;
     }
-    let archive = match env::var_os("LAWCHECK_LIBRARY") {
+    let archive = match named {
         Some(path) => PathBuf::from(path),
         None => {
             let package = env::var_os("CARGO_MANIFEST_DIR").expect("cargo names the package's folder");

@@ -91,6 +91,11 @@ impl Comparison {
         self.differences.push(difference);
     }
 
+    /// Whether a difference was noted.
+    pub fn differs(&self) -> bool {
+        !self.differences.is_empty()
+    }
+
     /// Notes both answers in full.
     pub fn set_answers(&mut self, expected: String, found: String) {
         self.answers = [expected, found];
@@ -125,10 +130,14 @@ pub fn class(expected: u64, answer: u64) -> Class {
     }
 }
 
-/// A slice as text.
+/// The most cells of a slice that are printed.
+const PRINTED: usize = 400;
+
+/// A slice as text, a long one by its front and its length.
 pub fn list<T: Cell>(cells: &[T]) -> String {
-    let cells: Vec<String> = cells.iter().map(T::to_string).collect();
-    format!("[{}]", cells.join(" "))
+    let printed: Vec<String> = cells.iter().take(PRINTED).map(T::to_string).collect();
+    let rest = if cells.len() > PRINTED { format!(" .. {} in all", cells.len()) } else { String::new() };
+    format!("[{}{rest}]", printed.join(" "))
 }
 
 /// A command for the shell that gives this text to the verdict program.

@@ -12,13 +12,15 @@ pub struct Coverage {
 }
 
 /// Every class that a comparison of full size has to meet, by operation.
-const ASKED: [(&str, &[u64], &[u64]); 8] = [
+const ASKED: [(&str, &[u64], &[u64]); 10] = [
     ("lawcheck_task", &[0], &[1, 2, 3, 4, 5, 6]),
     ("lawcheck_step", &[0, 1, 2], &[1, 2, 3, 4, 5, 6, 7, 14]),
     ("lawcheck_solo_replay", &[0, 1, 2], &[1, 2, 3, 4, 5, 6, 7, 8, 10, 14]),
     ("lawcheck_solo_search", &[0, 1], &[1, 2, 3, 4, 5, 6, 8, 9, 14]),
     ("lawcheck_joint_replay", &[0, 1, 2, 3, 4], &[1, 2, 3, 4, 5, 6, 7, 8, 10, 11, 12, 13, 14]),
     ("lawcheck_pick", &[0, 1], &[1, 2, 3, 4, 5, 6, 7, 8, 10, 11, 12, 13, 14]),
+    ("lawcheck_start", &[0], &[1, 2, 3, 4, 5, 6, 14]),
+    ("lawcheck_play", &[0, 1, 8, 13], &[1, 2, 3, 4, 5, 6, 7, 10, 11, 12, 14]),
     ("lawcheck_verdict", &[0, 1, 2, 3, 4], &[1, 2, 3, 4, 5, 6, 9, 14]),
     ("lawcheck_read", &[0], &[1, 2, 3, 4, 5, 6, 14, 15]),
 ];

@@ -71,7 +71,7 @@ fn part(checked: &impl Interface, options: Options, next: &AtomicU64) -> Summary
 
 /// Runs one case.
 pub fn one(checked: &impl Interface, seed: u64, case: u64, summary: &mut Summary) {
-    let ran = operations::any(&mut Random::new(seed, case), checked);
+    let ran = operations::case(case, &mut Random::new(seed, case), checked);
     summary.coverage.count(&ran);
     match ran.failure {
         None => summary.passed += 1,

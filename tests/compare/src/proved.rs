@@ -45,6 +45,22 @@ impl Interface for Proved {
         lawcheck::raw::pick(task, plans, ends, run, member, out)
     }
 
+    fn start(&self, task: &[u64], run: &mut [u64]) -> u64 {
+        lawcheck::raw::start(task, run)
+    }
+
+    fn play(
+        &self,
+        task: &[u64],
+        plans: &[u16],
+        ends: &[u64],
+        run: &mut [u64],
+        picks: &[u8],
+        answers: &mut [u64],
+    ) -> u64 {
+        lawcheck::raw::play(task, plans, ends, run, picks, answers)
+    }
+
     fn verdict(
         &self,
         task: &[u64],

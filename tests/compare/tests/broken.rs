@@ -33,6 +33,13 @@ listed! {
         PickCollidedNotNoted,
         PickCollidedTakenAsOne,
         PickAbsentPlacesCleared,
+        StartAbsentPlacesLeft,
+        StartCollidedLeft,
+        StartBeyondTheRun,
+        PlayStopsWherePassedOver,
+        PlayAnswersBeyondThePicks,
+        PlayCollidedLeft,
+        PlayPicksAfterTheCollision,
         VerdictRobust,
         VerdictCountOff,
         VerdictNineFirst,
@@ -170,6 +177,53 @@ impl Interface for Broken {
             _ => {}
         }
         self.refused(refusal, out)
+    }
+
+    fn start(&self, task: &[u64], run: &mut [u64]) -> u64 {
+        let before = run.to_vec();
+        let refusal = Fast.start(task, run);
+        match (self, refusal) {
+            (StartAbsentPlacesLeft, 0) => {
+                let absent = 1 + task[1] as usize..9;
+                run[absent.clone()].copy_from_slice(&before[absent]);
+            }
+            (StartCollidedLeft, 0) => run[0] = before[0],
+            (StartBeyondTheRun, 0) => run[10..].fill(0),
+            _ => {}
+        }
+        refusal
+    }
+
+    fn play(
+        &self,
+        task: &[u64],
+        plans: &[u16],
+        ends: &[u64],
+        run: &mut [u64],
+        picks: &[u8],
+        answers: &mut [u64],
+    ) -> u64 {
+        let collided = run.first().copied();
+        if *self == PlayStopsWherePassedOver && answers.len() >= picks.len() {
+            let mut told = vec![0; picks.len()];
+            Fast.play(task, plans, ends, &mut run.to_vec(), picks, &mut told);
+            let until = told.iter().position(|&answer| answer > 1).unwrap_or(picks.len());
+            return Fast.play(task, plans, ends, run, &picks[..until], answers);
+        }
+        let refusal = Fast.play(task, plans, ends, run, picks, answers);
+        match (self, refusal) {
+            (PlayAnswersBeyondThePicks, 0) => answers[picks.len()..].fill(0),
+            (PlayCollidedLeft, 0) => run[0] = collided.unwrap_or(0),
+            (PlayPicksAfterTheCollision, 0) if run[0] == 1 => {
+                let collision = answers[..picks.len()].iter().position(|&answer| answer == 1);
+                let after = collision.map_or(picks.len(), |collision| collision + 1);
+                run[0] = 0;
+                Fast.play(task, plans, ends, run, &picks[after..], &mut answers[after..]);
+                run[0] = 1;
+            }
+            _ => {}
+        }
+        refusal
     }
 
     fn verdict(

@@ -33,6 +33,9 @@ listed! {
         MemberThenPlace,
         ImpossibleThenMember,
         ImpossibleThenPlace,
+        TaskThenRun,
+        TaskThenAnswers,
+        PlacesThenSharedOfPlay,
         FullThenSlices,
         UnsolvableThenFull,
         TextThenWords,
@@ -178,6 +181,36 @@ impl Interface for Exchanged {
             (ImpossibleThenMember, 8) if run[0] != 0 => 13,
             (ImpossibleThenPlace, 11) if run[0] != 0 => 13,
             _ => refusal,
+        }
+    }
+
+    fn start(&self, task: &[u64], run: &mut [u64]) -> u64 {
+        match (self, Fast.start(task, run)) {
+            (TaskThenRun, 14) if Fast.task(task) != 0 => Fast.task(task),
+            (_, refusal) => refusal,
+        }
+    }
+
+    fn play(
+        &self,
+        task: &[u64],
+        plans: &[u16],
+        ends: &[u64],
+        run: &mut [u64],
+        picks: &[u8],
+        answers: &mut [u64],
+    ) -> u64 {
+        match (self, Fast.play(task, plans, ends, run, picks, answers)) {
+            (TaskThenAnswers, 14) if run.len() >= 10 && Fast.task(task) != 0 => Fast.task(task),
+            (PlacesThenSharedOfPlay, 4) if Fast.task(task) == 0 => {
+                let mut run = run.to_vec();
+                run[9] = 0;
+                match Fast.play(task, plans, ends, &mut run, &[], &mut []) {
+                    11 => 11,
+                    _ => 4,
+                }
+            }
+            (_, refusal) => refusal,
         }
     }
 

@@ -174,16 +174,7 @@ pub unsafe extern "C" fn lawcheck_start(
     run: *mut u64,
     run_len: usize,
 ) -> u64 {
-    let (task, run) = (lent(task, task_len), lent_mut(run, run_len));
-    if run.len() < 10 {
-        return 14;
-    }
-    let refusal = Fast.task(task);
-    if refusal == 0 {
-        run[..10].fill(0);
-        run[9] = task[3];
-    }
-    refusal
+    Fast.start(lent(task, task_len), lent_mut(run, run_len))
 }
 
 #[no_mangle]
@@ -201,23 +192,12 @@ pub unsafe extern "C" fn lawcheck_play(
     answers: *mut u64,
     answers_len: usize,
 ) -> u64 {
-    let (task, plans, ends) = (lent(task, task_len), lent(plans, plans_len), lent(ends, ends_len));
-    let (run, picks) = (lent_mut(run, run_len), lent(picks, picks_len));
-    let answers = lent_mut(answers, answers_len);
-    if run.len() < 10 || answers.len() < picks.len() {
-        return 14;
-    }
-    let mut answer = [0];
-    // A pick of no member meets every refusal of the list before its own, 8.
-    let refusal = Fast.pick(task, plans, ends, &mut run.to_vec(), u8::MAX, &mut answer);
-    if refusal != 8 {
-        return refusal;
-    }
-    for (&member, told) in picks.iter().zip(answers) {
-        *told = match Fast.pick(task, plans, ends, run, member, &mut answer) {
-            0 => answer[0],
-            refusal => refusal,
-        };
-    }
-    0
+    Fast.play(
+        lent(task, task_len),
+        lent(plans, plans_len),
+        lent(ends, ends_len),
+        lent_mut(run, run_len),
+        lent(picks, picks_len),
+        lent_mut(answers, answers_len),
+    )
 }

@@ -44,6 +44,18 @@ pub trait Interface: Sync {
         out: &mut [u64],
     ) -> u64;
 
+    fn start(&self, task: &[u64], run: &mut [u64]) -> u64;
+
+    fn play(
+        &self,
+        task: &[u64],
+        plans: &[u16],
+        ends: &[u64],
+        run: &mut [u64],
+        picks: &[u8],
+        answers: &mut [u64],
+    ) -> u64;
+
     fn verdict(
         &self,
         task: &[u64],

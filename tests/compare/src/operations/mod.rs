@@ -2,6 +2,7 @@
 
 mod read;
 mod run;
+pub mod sizes;
 mod solo;
 mod step;
 mod verdict;
@@ -11,16 +12,23 @@ use reference::generate::{damage::damage, families};
 use reference::interface::Interface;
 use reference::random::Random;
 
-/// Runs one case, chosen by the random numbers.
-pub fn any(random: &mut Random, checked: &impl Interface) -> Checked {
+/// Runs the case with this number: one that is made for a size, or one chosen by the random numbers.
+pub fn case(case: u64, random: &mut Random, checked: &impl Interface) -> Checked {
+    sizes::any(case, random, checked).unwrap_or_else(|| any(random, checked))
+}
+
+/// Any operation on any input.
+fn any(random: &mut Random, checked: &impl Interface) -> Checked {
     match random.below(100) {
         0..=9 => step::task(random, checked),
-        10..=19 => step::step(random, checked),
-        20..=31 => solo::replay(random, checked),
-        32..=45 => solo::search(random, checked),
-        46..=59 => run::joint_replay(random, checked),
-        60..=73 => run::pick(random, checked),
-        74..=88 => verdict::verdict(random, checked),
+        10..=17 => step::step(random, checked),
+        18..=27 => solo::replay(random, checked),
+        28..=40 => solo::search(random, checked),
+        41..=53 => run::joint_replay(random, checked),
+        54..=65 => run::pick(random, checked),
+        66..=67 => run::start(random, checked),
+        68..=74 => run::play(random, checked),
+        75..=88 => verdict::verdict(random, checked),
         _ => read::read(random, checked),
     }
 }

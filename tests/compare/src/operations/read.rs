@@ -11,17 +11,25 @@ use reference::paper::task::ROW;
 use reference::paper::text::RECORDS;
 use reference::random::Random;
 
+/// Words that the reader asks for.
+pub const ASKED: usize = RECORDS * ROW;
+
 pub fn read(random: &mut Random, checked: &impl Interface) -> Checked {
     let mut bytes = text::of_words(&task_words(random, 25)).into_bytes();
     if random.chance(60) {
         text::damage(random, &mut bytes);
     }
-    let asked = RECORDS * ROW;
+    let asked = ASKED;
     let length = match random.below(20) {
         0 => random.one_of(&[0, 1, asked - 5, asked - 1, asked - 1]),
         1..=3 => asked + random.between(1, 7),
         _ => asked,
     };
+    read_on(random, checked, bytes, length)
+}
+
+/// This text, with a word slice of this length.
+pub fn read_on(random: &mut Random, checked: &impl Interface, bytes: Vec<u8>, length: usize) -> Checked {
     let words: Vec<u64> = contents(random, length);
     let out = random_out(random, out_length::READ);
     let (mut expected_words, mut expected_out) = (words.clone(), out.clone());

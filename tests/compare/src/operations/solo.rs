@@ -22,6 +22,17 @@ pub fn replay(random: &mut Random, checked: &impl Interface) -> Checked {
         Some(planner) => planner.any(random, member as usize),
         None => (0..random.below(4)).map(|_| random.below(5) as u16).collect(),
     };
+    replay_on(random, checked, words, member, plan)
+}
+
+/// The solo replay of this plan.
+pub fn replay_on(
+    random: &mut Random,
+    checked: &impl Interface,
+    words: Vec<u64>,
+    member: u8,
+    plan: Vec<u16>,
+) -> Checked {
     let out = random_out(random, out_length::SOLO_REPLAY);
     let mut expected_out = out.clone();
     let expected = paper::solo_replay(&words, member, &plan, &mut expected_out);
@@ -41,12 +52,34 @@ pub fn search(random: &mut Random, checked: &impl Interface) -> Checked {
     let words = task_words(random, 8);
     let member = member(random, &words);
     let most = if random.chance(1) { MOST[1] } else { MOST[0] };
+    search_on(random, checked, words, member, most)
+}
+
+/// The solo search of this member, with a table of about as many rows as it needs, at most `most`.
+pub fn search_on(
+    random: &mut Random,
+    checked: &impl Interface,
+    words: Vec<u64>,
+    member: u8,
+    most: usize,
+) -> Checked {
     let needed = Task::check(&words)
         .ok()
         .filter(|task| (member as usize) < task.members())
         .and_then(|task| copies(&task, member as usize, most))
         .map(|copies| copies.rows.len());
     let rows = rows_near(random, needed, most);
+    search_in(random, checked, words, member, rows)
+}
+
+/// The solo search of this member in a table of so many rows.
+pub fn search_in(
+    random: &mut Random,
+    checked: &impl Interface,
+    words: Vec<u64>,
+    member: u8,
+    rows: usize,
+) -> Checked {
     let marked = length_near(random, rows);
     let table: Vec<u64> = contents(random, rows);
     let marks: Vec<u8> = contents(random, marked);

@@ -10,6 +10,11 @@ use reference::random::Random;
 
 pub fn task(random: &mut Random, checked: &impl Interface) -> Checked {
     let words = task_words(random, 80);
+    task_on(checked, words)
+}
+
+/// The task check of these words.
+pub fn task_on(checked: &impl Interface, words: Vec<u64>) -> Checked {
     let expected = paper::task(&words);
     let found = checked.task(&words);
     let mut comparison = Comparison::new("lawcheck_task");
@@ -25,6 +30,17 @@ pub fn step(random: &mut Random, checked: &impl Interface) -> Checked {
         _ => random.below(actions.max(1)) as u16,
     };
     let shared = shared_copy(random, &words, action);
+    step_on(random, checked, words, action, shared)
+}
+
+/// A step of this action at this shared copy.
+pub fn step_on(
+    random: &mut Random,
+    checked: &impl Interface,
+    words: Vec<u64>,
+    action: u16,
+    shared: Vec<u64>,
+) -> Checked {
     let out = random_out(random, out_length::STEP);
     let mut expected_out = out.clone();
     let expected = paper::step(&words, action, &shared, &mut expected_out);

@@ -6,7 +6,7 @@ use super::task_words;
 use crate::case::{list, Checked, Class, Comparison, Input};
 use crate::lent::Lent;
 use reference::brute;
-use reference::fast::{count_configurations, Copies, Task};
+use reference::fast::{count_configurations, Copies};
 use reference::generate::plans::{Bundle, Planner};
 use reference::generate::{contents, length_near};
 use reference::interface::{out_length, Interface, TOO_SHORT};
@@ -18,12 +18,13 @@ use reference::paper::verdict::{self as paper, Class as PaperClass};
 use reference::paper::Refusal;
 use reference::random::Random;
 
-/// The most configurations that a table is lent for, mostly and at times.
+/// The most copies that a table is lent for, and the most configurations, mostly and at times.
+const COPIES: usize = 1024;
 const MOST: [usize; 2] = [400, 2000];
 
 /// The slices that are lent, as they are at entry or as the paper leaves them.
 #[derive(Clone)]
-struct Slices {
+pub struct Slices {
     local: Vec<u64>,
     marks: Vec<u8>,
     configurations: Vec<u64>,
@@ -60,32 +61,57 @@ pub fn rows_near(random: &mut Random, needed: Option<usize>, most: usize) -> usi
     rows.min(most)
 }
 
-/// Slices of lengths near what the task needs.
-fn slices(random: &mut Random, words: &[u64]) -> Slices {
-    let planner = Planner::new(words);
-    let members = planner.as_ref().map_or(2, |planner| planner.task.members());
-    let tables: Option<Vec<Copies>> = planner.and_then(|planner| planner.tables.into_iter().collect());
-    let most_copies = tables.as_ref().and_then(|tables| tables.iter().map(|table| table.rows.len()).max());
-    let rows = rows_near(random, most_copies, 1024);
-    let cap = if random.chance(1) { MOST[1] } else { MOST[0] };
-    let needed = tables.zip(Task::check(words).ok()).and_then(|(tables, task)| {
-        let live = tables.iter().all(|table| table.live(task.initial));
-        if live {
-            count_configurations(&task, &tables, cap)
-        } else {
-            Some(3)
-        }
-    });
-    let most = rows_near(random, needed, cap);
+/// How many copies a member of the task has at most, and how many configurations there are; none where they are
+/// more than `most` of each.
+fn needed(words: &[u64], most: [usize; 2]) -> (usize, [Option<usize>; 2]) {
+    let Some(Planner { task, tables }) = Planner::with(words, most[0]) else {
+        return (2, [None; 2]);
+    };
+    let members = task.members();
+    let Some(tables) = tables.into_iter().collect::<Option<Vec<Copies>>>() else {
+        return (members, [None; 2]);
+    };
+    let copies = tables.iter().map(|table| table.rows.len()).max();
+    let live = tables.iter().all(|table| table.live(task.initial));
+    (members, [copies, if live { count_configurations(&task, &tables, most[1]) } else { Some(3) }])
+}
+
+/// Slices of lengths near what the task needs, for at most so many copies and configurations.
+fn slices(random: &mut Random, words: &[u64], most: [usize; 2]) -> Slices {
+    let (members, [copies, configurations]) = needed(words, most);
+    let rows = rows_near(random, copies, most[0]);
+    let configurations = rows_near(random, configurations, most[1]);
+    let spared = random.chance(40);
+    let length = |random: &mut Random, asked| if spared { asked } else { length_near(random, asked) };
+    slices_for(random, members, [rows, configurations], length)
+}
+
+/// Slices that are long enough for the task, which needs at most so many copies and configurations.
+pub fn enough(random: &mut Random, words: &[u64], most: [usize; 2]) -> Slices {
+    let (members, rows) = needed(words, most);
+    let rows = [0, 1].map(|kind| rows[kind].unwrap_or(most[kind]) + random.one_of(&[0, 0, 1, 6]));
+    room(random, members, rows)
+}
+
+/// Slices for just so many rows, of copies of each member and of configurations.
+pub fn room(random: &mut Random, members: usize, rows: [usize; 2]) -> Slices {
+    slices_for(random, members, rows, |random, asked| asked + random.one_of(&[0, 0, 1, 4]))
+}
+
+/// Slices for so many rows, the others of a length near what is asked.
+fn slices_for(
+    random: &mut Random,
+    members: usize,
+    [rows, most]: [usize; 2],
+    length: impl Fn(&mut Random, usize) -> usize,
+) -> Slices {
     let local = members * rows + random.below(members);
     let configurations = (members + 1) * most + random.below(members + 1);
-    let spared = random.chance(40);
-    let mut length = |asked| if spared { asked } else { length_near(random, asked) };
-    let marks = length(members * rows);
-    let trail = length(2 * most);
-    let plans = length(most + members * rows);
-    let ends = length(members);
-    let picks = length(most);
+    let marks = length(random, members * rows);
+    let trail = length(random, 2 * most);
+    let plans = length(random, most + members * rows);
+    let ends = length(random, members);
+    let picks = length(random, most);
     Slices {
         local: contents(random, local),
         marks: contents(random, marks),
@@ -161,7 +187,13 @@ impl LentSlices {
 
 pub fn verdict(random: &mut Random, checked: &impl Interface) -> Checked {
     let words = task_words(random, 6);
-    let entry = slices(random, &words);
+    let most = if random.chance(1) { MOST[1] } else { MOST[0] };
+    let entry = slices(random, &words, [COPIES, most]);
+    verdict_on(random, checked, words, entry)
+}
+
+/// The verdict on this task with these slices.
+pub fn verdict_on(random: &mut Random, checked: &impl Interface, words: Vec<u64>, entry: Slices) -> Checked {
     let mut expected = entry.clone();
     let answer = expected.expect(&words);
     let mut found = entry.lend();
@@ -219,16 +251,20 @@ pub fn verdict(random: &mut Random, checked: &impl Interface) -> Checked {
             comparison.differ(difference);
         }
     }
-    comparison.set_answers(
-        format!("{answer:?}"),
-        format!(
-            "returns {returned}, out {}, plans {}, ends {}, picks {}",
-            list(found.out.held()),
-            list(found.plans.held()),
-            list(found.ends.held()),
-            list(found.picks.held())
-        ),
-    );
+    if comparison.differs() {
+        let held = &found;
+        let conflict = [list(held.plans.held()), list(held.ends.held()), list(held.picks.held())];
+        comparison.set_answers(
+            format!("{answer:?}"),
+            format!(
+                "returns {returned}, out {}, plans {}, ends {}, picks {}",
+                list(held.out.held()),
+                conflict[0],
+                conflict[1],
+                conflict[2]
+            ),
+        );
+    }
     comparison.close(class, || (Input::Task(words), entry.lengths()))
 }
 

@@ -177,6 +177,28 @@ impl Interface for Fast {
         given(out, run::pick(task, plans, ends, run, member))
     }
 
+    fn start(&self, task: &[u64], run: &mut [u64]) -> u64 {
+        if run.len() < run::WORDS {
+            return TOO_SHORT;
+        }
+        given(&mut [], run::start(task, run))
+    }
+
+    fn play(
+        &self,
+        task: &[u64],
+        plans: &[u16],
+        ends: &[u64],
+        run: &mut [u64],
+        picks: &[u8],
+        answers: &mut [u64],
+    ) -> u64 {
+        if run.len() < run::WORDS || answers.len() < picks.len() {
+            return TOO_SHORT;
+        }
+        given(&mut [], run::play_picks(task, plans, ends, run, picks, answers))
+    }
+
     fn verdict(
         &self,
         task: &[u64],

@@ -106,6 +106,63 @@ pub(super) fn joint_replay(task: &[u64], plans: &[u16], ends: &[u64], picks: &[u
     Ok([kind, member, done, shared])
 }
 
+/// A run that is handed in, on checked plans.
+struct Held<'a> {
+    task: Task,
+    plans: Plans<'a>,
+    places: [usize; 8],
+    shared: u64,
+    collided: bool,
+}
+
+impl<'a> Held<'a> {
+    fn check(task: &[u64], plans: &'a [u16], ends: &[u64], run: &[u64]) -> Result<Held<'a>, u64> {
+        let task = Task::check(task)?;
+        let plans = Plans::check(&task, plans, ends)?;
+        let shared = run[9];
+        if shared & !task.known != 0 {
+            return Err(4);
+        }
+        let mut places = [0; 8];
+        for (member, plan) in plans.0.iter().enumerate() {
+            if run[1 + member] > plan.len() as u64 {
+                return Err(11);
+            }
+            places[member] = run[1 + member] as usize;
+        }
+        Ok(Held { task, plans, places, shared, collided: run[0] != 0 })
+    }
+
+    /// A pick: 0 go, 1 collision.
+    fn pick(&mut self, member: u8) -> Result<u64, u64> {
+        let member = member as usize;
+        if member >= self.task.members() {
+            return Err(8);
+        }
+        match self.plans.next(&self.task, &self.places, member) {
+            Some(action) if !self.collided && !action.waits(self.shared) => {
+                if action.applicable(self.shared) {
+                    self.shared = action.apply(self.shared);
+                    self.places[member] += 1;
+                    Ok(0)
+                } else {
+                    self.collided = true;
+                    Ok(1)
+                }
+            }
+            _ => Err(13),
+        }
+    }
+
+    fn write(&self, run: &mut [u64]) {
+        run[0] = self.collided as u64;
+        for (word, &place) in run[1..].iter_mut().zip(&self.places[..self.task.members()]) {
+            *word = place as u64;
+        }
+        run[9] = self.shared;
+    }
+}
+
 pub(super) fn pick(
     task: &[u64],
     plans: &[u16],
@@ -113,34 +170,31 @@ pub(super) fn pick(
     run: &mut [u64],
     member: u8,
 ) -> Result<[u64; 1], u64> {
+    let mut held = Held::check(task, plans, ends, run)?;
+    let answer = held.pick(member)?;
+    held.write(run);
+    Ok([answer])
+}
+
+pub(super) fn start(task: &[u64], run: &mut [u64]) -> Result<[u64; 0], u64> {
     let task = Task::check(task)?;
-    let plans = Plans::check(&task, plans, ends)?;
-    let shared = run[9];
-    if shared & !task.known != 0 {
-        return Err(4);
+    run[..WORDS].fill(0);
+    run[WORDS - 1] = task.initial;
+    Ok([])
+}
+
+pub(super) fn play_picks(
+    task: &[u64],
+    plans: &[u16],
+    ends: &[u64],
+    run: &mut [u64],
+    picks: &[u8],
+    answers: &mut [u64],
+) -> Result<[u64; 0], u64> {
+    let mut held = Held::check(task, plans, ends, run)?;
+    for (&member, answer) in picks.iter().zip(answers) {
+        *answer = held.pick(member).unwrap_or_else(|refusal| refusal);
     }
-    let mut places = [0; 8];
-    for (member, plan) in plans.0.iter().enumerate() {
-        if run[1 + member] > plan.len() as u64 {
-            return Err(11);
-        }
-        places[member] = run[1 + member] as usize;
-    }
-    let member = member as usize;
-    if member >= task.members() {
-        return Err(8);
-    }
-    match plans.next(&task, &places, member) {
-        Some(action) if run[0] == 0 && !action.waits(shared) => {
-            if action.applicable(shared) {
-                run[1 + member] += 1;
-                run[9] = action.apply(shared);
-                Ok([0])
-            } else {
-                run[0] = 1;
-                Ok([1])
-            }
-        }
-        _ => Err(13),
-    }
+    held.write(run);
+    Ok([])
 }

@@ -1,6 +1,6 @@
 //! Families of valid laws, small and at the limits.
 
-use super::{all, few, some, Law};
+use super::{all, few, shuffle, some, Law};
 use crate::laws;
 use crate::random::Random;
 
@@ -259,10 +259,4 @@ pub fn widened(random: &mut Random, law: Law, facts: usize, members: usize, acti
         shuffle(random, &mut wide.actions);
     }
     wide
-}
-
-fn shuffle<T>(random: &mut Random, items: &mut [T]) {
-    for last in (1..items.len()).rev() {
-        items.swap(last, random.below(last + 1));
-    }
 }

@@ -3,6 +3,7 @@
 pub mod damage;
 pub mod families;
 pub mod plans;
+pub mod sizes;
 pub mod text;
 
 use crate::random::Random;
@@ -18,6 +19,11 @@ pub struct Law {
 }
 
 impl Law {
+    /// All its facts.
+    pub fn known(&self) -> u64 {
+        all(self.facts)
+    }
+
     /// The task's words.
     pub fn words(&self) -> Vec<u64> {
         let sizes = [self.facts, self.goals.len(), self.actions.len()].map(|size| size as u64);
@@ -43,6 +49,13 @@ pub fn all(facts: usize) -> u64 {
 /// Any number of the first `facts` facts.
 pub fn some(random: &mut Random, facts: usize) -> u64 {
     random.word() & all(facts)
+}
+
+/// Any order of the items.
+pub fn shuffle<T>(random: &mut Random, items: &mut [T]) {
+    for last in (1..items.len()).rev() {
+        items.swap(last, random.below(last + 1));
+    }
 }
 
 /// An element of a lent slice.

@@ -22,8 +22,13 @@ pub struct Bundle {
 impl Planner {
     /// None where the task check refuses the words.
     pub fn new(words: &[u64]) -> Option<Planner> {
+        Planner::with(words, COPIES)
+    }
+
+    /// The same, with room for so many copies of each member.
+    pub fn with(words: &[u64], most: usize) -> Option<Planner> {
         let task = Task::check(words).ok()?;
-        let tables = (0..task.members()).map(|member| copies(&task, member, COPIES)).collect();
+        let tables = (0..task.members()).map(|member| copies(&task, member, most)).collect();
         Some(Planner { task, tables })
     }
 

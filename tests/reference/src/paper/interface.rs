@@ -80,6 +80,39 @@ pub fn pick(words: &[u64], plans: &[u16], ends: &[u64], run: &mut [u64], member:
     }
 }
 
+pub fn start(words: &[u64], run: &mut [u64]) -> u64 {
+    if run.len() < RUN {
+        return TOO_SHORT;
+    }
+    run::start(words, &mut run[..RUN]).err().unwrap_or(0)
+}
+
+pub fn play(
+    words: &[u64],
+    plans: &[u16],
+    ends: &[u64],
+    run: &mut [u64],
+    picks: &[u8],
+    answers: &mut [u64],
+) -> u64 {
+    if run.len() < RUN || answers.len() < picks.len() {
+        return TOO_SHORT;
+    }
+    match run::play_picks(words, plans, ends, &mut run[..RUN], picks) {
+        Err(refusal) => refusal,
+        Ok(told) => {
+            for (answer, told) in answers.iter_mut().zip(told) {
+                *answer = match told {
+                    Ok(Pick::Go) => 0,
+                    Ok(Pick::Collision) => 1,
+                    Err(refusal) => refusal,
+                };
+            }
+            0
+        }
+    }
+}
+
 pub fn read(bytes: &[u8], words: &mut [u64], out: &mut [u64]) -> u64 {
     if out.len() < out_length::READ {
         return TOO_SHORT;

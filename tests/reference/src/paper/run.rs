@@ -148,14 +148,14 @@ pub fn joint_replay(
     Ok(Replayed { outcome: run.outcome(&task, &plans), done, shared: run.shared })
 }
 
-/// The operation pick, on a run of ten words. Places of members that the task does not have stay aside.
-pub fn pick(
+/// A run of ten words that is handed in, with its task and plans. Places of members that the task does not have
+/// stay aside.
+fn handed_in(
     words: &[u64],
     plan_slice: &[u16],
     ends: &[u64],
-    run: &mut [u64],
-    member: u8,
-) -> Result<Pick, Refusal> {
+    run: &[u64],
+) -> Result<(Task, Vec<Vec<u16>>, Run), Refusal> {
     let task = check(words)?;
     let plans = plans(&task, plan_slice, ends)?;
     let shared = Facts::of_word(run[RUN - 1]);
@@ -170,12 +170,51 @@ pub fn pick(
         }
         places.push(place as usize);
     }
-    let mut held = Run { collided: run[0] != 0, places, shared };
-    let answer = held.pick(&task, &plans, member)?;
+    let held = Run { collided: run[0] != 0, places, shared };
+    Ok((task, plans, held))
+}
+
+/// Writes a run to its ten words.
+fn hand_back(held: &Run, run: &mut [u64]) {
     run[0] = if held.collided { 1 } else { 0 };
     for (member, &place) in held.places.iter().enumerate() {
         run[1 + member] = place as u64;
     }
     run[RUN - 1] = held.shared.word();
+}
+
+/// The operation pick, on a run of ten words.
+pub fn pick(
+    words: &[u64],
+    plan_slice: &[u16],
+    ends: &[u64],
+    run: &mut [u64],
+    member: u8,
+) -> Result<Pick, Refusal> {
+    let (task, plans, mut held) = handed_in(words, plan_slice, ends, run)?;
+    let answer = held.pick(&task, &plans, member)?;
+    hand_back(&held, run);
     Ok(answer)
+}
+
+/// The start of a run, as ten words.
+pub fn start(words: &[u64], run: &mut [u64]) -> Result<(), Refusal> {
+    let task = check(words)?;
+    run.fill(0);
+    hand_back(&Run::start(&task), run);
+    Ok(())
+}
+
+/// Picks in turn on a run of ten words, and what each answers; an impossible one is passed over.
+pub fn play_picks(
+    words: &[u64],
+    plan_slice: &[u16],
+    ends: &[u64],
+    run: &mut [u64],
+    picks: &[u8],
+) -> Result<Vec<Result<Pick, Refusal>>, Refusal> {
+    let (task, plans, mut held) = handed_in(words, plan_slice, ends, run)?;
+    let answers = picks.iter().map(|&member| held.pick(&task, &plans, member)).collect();
+    hand_back(&held, run);
+    Ok(answers)
 }

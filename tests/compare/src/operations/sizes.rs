@@ -1,0 +1,526 @@
+//! Cases made for a size: for each quantity that an answer, an index or a loop counts, every power of two up to
+//! its limit, one less and one more.
+
+use super::{read, run, solo, step, verdict};
+use crate::case::Checked;
+use reference::generate::families::counters;
+use reference::generate::plans::Bundle;
+use reference::generate::sizes::{
+    amid, beside, digits, fault_after, fault_before, last_action, last_fact, last_unsolvable, odometer,
+    odometer_past, padded, records, scattered, sizes, Fault, Turns,
+};
+use reference::generate::{contents, shuffle, text, Law};
+use reference::interface::Interface;
+use reference::random::Random;
+use std::sync::OnceLock;
+
+/// One case in so many is made for a size.
+const EVERY: u64 = 64;
+
+/// The most steps, picks and places.
+const STEPS: usize = 65_537;
+/// The rows of the verdict program's tables; what a missed goal and another fault of two members need of them.
+const ROWS: usize = 4097;
+const MISSED: usize = 2049;
+const PICKS: usize = 1025;
+const FACTS: usize = 64;
+const MEMBERS: usize = 8;
+const ACTIONS: usize = 256;
+const RECORDS: usize = 265;
+const DIGITS: usize = 20;
+
+/// What a case is made for.
+#[derive(Clone, Copy, Debug)]
+enum Made {
+    TaskFacts,
+    TaskFactAbove,
+    TaskMembers,
+    TaskActions,
+    StepFacts,
+    StepActions,
+    StepNoAction,
+    StartFacts,
+    SoloMembers,
+    SoloActions,
+    SoloSteps,
+    SoloShort,
+    SoloBreak,
+    SoloBadEntry,
+    SearchMembers,
+    SearchActions,
+    SearchRows,
+    SearchDead,
+    SearchBush,
+    SearchFull,
+    SearchSlack,
+    JointMissedMember,
+    JointActions,
+    JointSuccess,
+    JointFault(Fault),
+    JointOpen,
+    JointUnsolved,
+    JointBadEntry,
+    JointBadPick,
+    PickMembers,
+    PickGo,
+    PickCollision,
+    PickImpossible,
+    PickPastEnd,
+    PlayGo,
+    PlayCollision,
+    PlayPassedOver,
+    PlaySlack,
+    VerdictMembers,
+    VerdictUnsolvable,
+    VerdictMissedMember,
+    VerdictActions,
+    VerdictConflictActions,
+    VerdictRows,
+    VerdictBush,
+    VerdictFull,
+    VerdictSlack,
+    VerdictFault(Fault),
+    VerdictPlan(Fault),
+    ReadRecords,
+    ReadNarrow,
+    ReadBadRecord,
+    ReadDigits,
+    ReadSlack,
+}
+use Made::*;
+
+/// Everything that a case is made for, with the largest size.
+const MADE: [(Made, usize); 59] = [
+    (TaskFacts, FACTS),
+    (TaskFactAbove, FACTS - 1),
+    (TaskMembers, MEMBERS),
+    (TaskActions, ACTIONS),
+    (StepFacts, FACTS),
+    (StepActions, ACTIONS),
+    (StepNoAction, ACTIONS),
+    (StartFacts, FACTS),
+    (SoloMembers, MEMBERS),
+    (SoloActions, ACTIONS),
+    (SoloSteps, STEPS),
+    (SoloShort, STEPS),
+    (SoloBreak, STEPS),
+    (SoloBadEntry, STEPS),
+    (SearchMembers, MEMBERS),
+    (SearchActions, ACTIONS),
+    (SearchRows, ROWS),
+    (SearchDead, ROWS),
+    (SearchBush, ROWS),
+    (SearchFull, ROWS),
+    (SearchSlack, ROWS),
+    (JointMissedMember, MEMBERS),
+    (JointActions, ACTIONS),
+    (JointSuccess, STEPS),
+    (JointFault(Fault::Collision), STEPS),
+    (JointFault(Fault::Deadlock), STEPS),
+    (JointFault(Fault::Missed), STEPS),
+    (JointOpen, STEPS),
+    (JointUnsolved, STEPS),
+    (JointBadEntry, STEPS),
+    (JointBadPick, STEPS),
+    (PickMembers, MEMBERS),
+    (PickGo, STEPS),
+    (PickCollision, STEPS),
+    (PickImpossible, STEPS),
+    (PickPastEnd, STEPS),
+    (PlayGo, STEPS),
+    (PlayCollision, STEPS),
+    (PlayPassedOver, STEPS),
+    (PlaySlack, STEPS),
+    (VerdictMembers, MEMBERS),
+    (VerdictUnsolvable, MEMBERS),
+    (VerdictMissedMember, MEMBERS),
+    (VerdictActions, ACTIONS),
+    (VerdictConflictActions, ACTIONS),
+    (VerdictRows, ROWS),
+    (VerdictBush, ROWS),
+    (VerdictFull, ROWS),
+    (VerdictSlack, ROWS),
+    (VerdictFault(Fault::Collision), PICKS),
+    (VerdictFault(Fault::Deadlock), PICKS),
+    (VerdictFault(Fault::Missed), MISSED),
+    (VerdictPlan(Fault::Collision), PICKS),
+    (VerdictPlan(Fault::Deadlock), PICKS),
+    (ReadRecords, RECORDS),
+    (ReadNarrow, RECORDS),
+    (ReadBadRecord, RECORDS),
+    (ReadDigits, DIGITS),
+    (ReadSlack, ROWS),
+];
+
+/// Every case that is made for a size, in turn.
+fn list() -> &'static [(Made, usize)] {
+    static LIST: OnceLock<Vec<(Made, usize)>> = OnceLock::new();
+    LIST.get_or_init(|| {
+        let each = |&(made, most): &(Made, usize)| {
+            let mut all = if most <= DIGITS { (1..=most).collect() } else { sizes(most) };
+            if !all.contains(&most) {
+                all.push(most);
+            }
+            if matches!(made, SearchBush | VerdictBush) {
+                all.retain(|&size| size > 1 && size.is_power_of_two());
+            }
+            all.into_iter().map(move |size| (made, size))
+        };
+        MADE.iter().flat_map(each).collect()
+    })
+}
+
+/// How many there are.
+pub fn count() -> u64 {
+    list().len() as u64
+}
+
+/// The number of the case that is the first made for the size at a place of the list.
+pub fn case(place: u64) -> u64 {
+    EVERY * place
+}
+
+/// How many of them are among the first cases.
+pub fn among(cases: u64) -> u64 {
+    cases.div_ceil(EVERY).min(count())
+}
+
+/// The case with this number, where it is made for a size.
+pub fn any(case: u64, random: &mut Random, checked: &impl Interface) -> Option<Checked> {
+    if !case.is_multiple_of(EVERY) {
+        return None;
+    }
+    let (made, size) = list()[(case / EVERY % count()) as usize];
+    Some(made.check(size, random, checked))
+}
+
+impl Made {
+    fn check(self, size: usize, random: &mut Random, checked: &impl Interface) -> Checked {
+        match self {
+            TaskFacts => step::task_on(checked, last_fact(random, size).words()),
+            TaskFactAbove => {
+                let mut words = last_fact(random, size).words();
+                let mask = random.one_of(&[3, 6, 11, 12, 13, 14, 16, 21]);
+                words[mask] |= 1 << random.between(size, 63);
+                step::task_on(checked, words)
+            }
+            TaskMembers => {
+                let mut words = last_unsolvable(size).words();
+                let wrong = random.one_of(&[0, 2, 3, 4]);
+                words[5 * size + wrong] ^= random.one_of(&[1, 8, 1 << 63]);
+                step::task_on(checked, words)
+            }
+            TaskActions => {
+                let mut words = last_action(size).words();
+                let row = words.len() - 5;
+                let wrong = random.below(5);
+                words[row + wrong] ^= random.one_of(&[4, 8, 1 << 63]);
+                step::task_on(checked, words)
+            }
+            StepFacts => {
+                let law = last_fact(random, size);
+                let action = random.below(2) as u16;
+                let shared = random.word() & (law.known() >> 1) | (action as u64) << (size - 1);
+                step::step_on(random, checked, law.words(), action, vec![shared])
+            }
+            StepActions | StepNoAction => {
+                let action = if matches!(self, StepActions) { size - 1 } else { size };
+                let shared = vec![random.below(4) as u64];
+                step::step_on(random, checked, last_action(size).words(), action as u16, shared)
+            }
+            StartFacts => {
+                let mut law = last_fact(random, size);
+                law.initial |= 1 << (size - 1);
+                let run = contents(random, 10);
+                run::start_on(checked, law.words(), run)
+            }
+            SoloMembers => {
+                let turns = Turns::new(size);
+                let plan = turns.plan(size - 1, random.below(4));
+                solo::replay_on(random, checked, turns.law.words(), size as u8 - 1, plan)
+            }
+            SoloActions => {
+                let plan = vec![size as u16 - 1; random.between(1, 3)];
+                solo::replay_on(random, checked, last_action(size).words(), 0, plan)
+            }
+            SoloSteps | SoloShort | SoloBreak | SoloBadEntry => self.solo(size, random, checked),
+            SearchMembers => {
+                let words = Turns::new(size).law.words();
+                solo::search_in(random, checked, words, size as u8 - 1, 8)
+            }
+            SearchActions => solo::search_in(random, checked, last_action(size).words(), 0, 8),
+            SearchRows => search(random, checked, odometer(size), size),
+            SearchDead => {
+                let goal = random.below(size);
+                search(random, checked, odometer_past(size, goal), size)
+            }
+            SearchBush => {
+                let law = counters(1, size.ilog2() as usize);
+                search(random, checked, law, size)
+            }
+            SearchFull => solo::search_in(random, checked, odometer(size + 1).words(), 0, size),
+            SearchSlack => {
+                let law = counters(1, random.between(1, 4));
+                let rows = size + (1 << law.goals[0].count_ones());
+                solo::search_in(random, checked, law.words(), 0, rows)
+            }
+            JointMissedMember => {
+                let mut turns = Turns::new(size.max(2));
+                let missed = turns.law.goals.len() - 1;
+                turns.wants(missed);
+                let taker = random.below(missed);
+                let mut plans = vec![Vec::new(); missed + 1];
+                plans[taker] = vec![turns.takes(taker)];
+                run::joint_replay_on(random, checked, turns.law.words(), bundle(plans), vec![taker as u8])
+            }
+            JointActions => {
+                let turns = Turns::new(2);
+                let before = size.max(10) - 10;
+                let moved = |plan: Vec<u16>| plan.iter().map(|entry| entry + before as u16).collect();
+                let plans = (0..2).map(|member| moved(turns.plan(member, 3))).collect();
+                let words = padded(turns.law, size).words();
+                let mut picks = vec![0, 0, 0, 1, 1, 1];
+                shuffle(random, &mut picks);
+                run::joint_replay_on(random, checked, words, bundle(plans), picks)
+            }
+            JointSuccess | JointFault(_) | JointOpen | JointUnsolved | JointBadEntry | JointBadPick => {
+                self.joint(size, random, checked)
+            }
+            PickMembers | PickGo | PickCollision | PickImpossible | PickPastEnd => {
+                self.pick(size, random, checked)
+            }
+            PlayGo | PlayCollision | PlayPassedOver | PlaySlack => self.play(size, random, checked),
+            VerdictMembers => {
+                let law = beside(&vec![odometer(2); size]);
+                judged(random, checked, law, [2, 1 << size])
+            }
+            VerdictUnsolvable => judged(random, checked, last_unsolvable(size), [2, 2]),
+            VerdictMissedMember => {
+                let before = size.max(2) - 2;
+                judged(random, checked, amid(fault_after(1, Fault::Missed), before, 0), [4, 4])
+            }
+            VerdictActions => judged(random, checked, last_action(size), [2, 2]),
+            VerdictConflictActions => {
+                let fault = random.one_of(&[Fault::Collision, Fault::Deadlock]);
+                judged(random, checked, padded(fault_after(1, fault), size), [4, 8])
+            }
+            VerdictRows => {
+                let law = idled(random, odometer(size), 1);
+                judged(random, checked, law, [size, size])
+            }
+            VerdictBush => {
+                let facts = size.ilog2() as usize;
+                let members = random.between(1, facts.clamp(1, 4));
+                let split = (0..members).map(|member| (facts + member) / members);
+                let laws: Vec<Law> = split.map(|facts| counters(1, facts)).collect();
+                judged(random, checked, beside(&laws), [size, size])
+            }
+            VerdictFull => {
+                let words = odometer(size + 1).words();
+                let slices = verdict::room(random, 1, [size + 1, size]);
+                verdict::verdict_on(random, checked, words, slices)
+            }
+            VerdictSlack => {
+                let law = fault_after(2, random.one_of(&[Fault::Collision, Fault::Missed]));
+                let slices = verdict::room(random, 2, [8 + size / 2, 16 + size]);
+                verdict::verdict_on(random, checked, law.words(), slices)
+            }
+            VerdictFault(fault) => {
+                let law = idled(random, fault_after(size, fault), 2);
+                judged(random, checked, law, [size + 2, 2 * size + 8])
+            }
+            VerdictPlan(fault) => {
+                let law = idled(random, fault_before(size, fault), 2);
+                judged(random, checked, law, [size + 2, 2 * size + 8])
+            }
+            ReadRecords | ReadNarrow => {
+                let used = if matches!(self, ReadRecords) { FACTS } else { 16 };
+                let text = text::of_words(&records(random, size.max(2), used).words());
+                read::read_on(random, checked, text.into_bytes(), read::ASKED)
+            }
+            ReadBadRecord => {
+                let text = text::of_words(&records(random, size.max(2), FACTS).words());
+                let mut text = text.trim_end().as_bytes().to_vec();
+                let place = text.iter().rposition(|&byte| byte == b'\n').map_or(0, |end| end + 1);
+                let place = random.between(place, text.len() - 1);
+                text[place] = random.one_of(b"\n\r;\" x\xff\0");
+                read::read_on(random, checked, text, read::ASKED)
+            }
+            ReadDigits => {
+                let text = text::of_words(&digits(random, size as u32).words());
+                read::read_on(random, checked, text.into_bytes(), read::ASKED)
+            }
+            ReadSlack => {
+                let text = text::of_words(&records(random, RECORDS, FACTS).words());
+                read::read_on(random, checked, text.into_bytes(), read::ASKED + size)
+            }
+        }
+    }
+
+    /// Solo replay of a plan that goes well for about `size` steps.
+    fn solo(self, size: usize, random: &mut Random, checked: &impl Interface) -> Checked {
+        let mut turns = Turns::new(random.between(2, MEMBERS));
+        let member = random.below(turns.law.goals.len());
+        let mut plan = turns.plan(member, size);
+        match self {
+            SoloShort => turns.law.goals[member] = u64::from(size.is_multiple_of(2)) << member,
+            SoloBreak => {
+                plan[size - 1] = turns.takes(member);
+                plan.extend(vec![turns.needs(member); random.between(1, 3)]);
+            }
+            SoloBadEntry => {
+                plan.push(bad_entry(random, &turns, member));
+                plan.extend(turns.plan(member, random.below(3)));
+            }
+            _ => {}
+        }
+        solo::replay_on(random, checked, turns.law.words(), member as u8, plan)
+    }
+
+    /// Joint replay of about `size` picks.
+    fn joint(self, size: usize, random: &mut Random, checked: &impl Interface) -> Checked {
+        let mut turns = Turns::new(random.between(2, MEMBERS));
+        let members = turns.law.goals.len();
+        let taker = random.below(members);
+        let other = (taker + random.between(1, members - 1)) % members;
+        let turned = if matches!(self, JointFault(_)) { size - 1 } else { size };
+        let lengths = shares(random, members, turned);
+        let mut plans: Vec<Vec<u16>> =
+            lengths.iter().enumerate().map(|(member, &steps)| turns.plan(member, steps)).collect();
+        let mut picks = in_any_order(random, &lengths);
+        match self {
+            JointFault(fault) => {
+                plans[taker].push(turns.takes(taker));
+                picks.push(taker as u8);
+                match fault {
+                    Fault::Missed => turns.wants(other),
+                    Fault::Deadlock => plans[other].push(turns.waits(other)),
+                    Fault::Collision => {
+                        plans[other].push(turns.needs(other));
+                        picks.push(other as u8);
+                    }
+                }
+            }
+            JointOpen => plans[other].push(turns.needs(other)),
+            JointUnsolved => plans[other].extend([turns.takes(other), turns.needs(other)]),
+            JointBadEntry => {
+                let last = members - 1;
+                plans[last].push(bad_entry(random, &turns, last));
+            }
+            JointBadPick => picks.push(random.one_of(&[members as u8, other as u8, u8::MAX])),
+            _ => {}
+        }
+        run::joint_replay_on(random, checked, turns.law.words(), bundle(plans), picks)
+    }
+
+    /// A pick of a member that stands at about the place `size`.
+    fn pick(self, size: usize, random: &mut Random, checked: &impl Interface) -> Checked {
+        let members = if matches!(self, PickMembers) { size } else { random.between(1, MEMBERS) };
+        let turns = Turns::new(members);
+        let member = if matches!(self, PickMembers) { size - 1 } else { random.below(members) };
+        let (steps, shared_fact) = (if matches!(self, PickMembers) { 2 } else { size }, 1 << members);
+        let mut plans: Vec<Vec<u16>> =
+            (0..members).map(|member| turns.plan(member, random.below(3))).collect();
+        plans[member] = turns.plan(member, steps);
+        let mut run = vec![0; 10];
+        run[9] = turns.law.known();
+        run[1 + member] = steps as u64;
+        match self {
+            PickCollision => {
+                plans[member].push(turns.needs(member));
+                run[9] &= !shared_fact;
+            }
+            PickImpossible if random.chance(50) => {
+                plans[member].push(turns.waits(member));
+                run[9] &= !shared_fact;
+            }
+            PickImpossible => {}
+            PickPastEnd => run[1 + member] += 1,
+            _ => plans[member].extend(turns.plan(member, 2)),
+        }
+        run::pick_on(random, checked, turns.law.words(), bundle(plans), run, member as u8)
+    }
+
+    /// About `size` picks played on a run at its start.
+    fn play(self, size: usize, random: &mut Random, checked: &impl Interface) -> Checked {
+        let turns = Turns::new(random.between(2, MEMBERS));
+        let members = turns.law.goals.len();
+        let picked = if matches!(self, PlaySlack) { 3 } else { size };
+        let lengths = shares(random, members, picked);
+        let mut plans: Vec<Vec<u16>> =
+            lengths.iter().enumerate().map(|(member, &steps)| turns.plan(member, steps)).collect();
+        let mut picks = in_any_order(random, &lengths);
+        match self {
+            PlayCollision => {
+                plans[0].push(turns.takes(0));
+                plans[1].push(turns.needs(1));
+                picks.extend([0, 1, 1]);
+            }
+            PlayPassedOver => picks.push(random.one_of(&[members as u8, u8::MAX, 0])),
+            _ => {}
+        }
+        let mut run = vec![0; 10];
+        run[9] = turns.law.initial;
+        let free = if matches!(self, PlaySlack) { size } else { random.below(3) };
+        let answers = contents(random, picks.len() + free);
+        run::play_on(checked, turns.law.words(), bundle(plans), run, picks, answers)
+    }
+}
+
+/// An entry that is no action, or another member's.
+fn bad_entry(random: &mut Random, turns: &Turns, member: usize) -> u16 {
+    let members = turns.law.goals.len();
+    let actions = turns.law.actions.len() as u16;
+    random.one_of(&[actions, u16::MAX, turns.takes((member + 1) % members)])
+}
+
+/// Steps for each of some members: all for one of them, or as many for each.
+fn shares(random: &mut Random, members: usize, steps: usize) -> Vec<usize> {
+    if random.chance(50) {
+        let one = random.below(members);
+        (0..members).map(|member| if member == one { steps } else { 0 }).collect()
+    } else {
+        (0..members).map(|member| (steps + member) / members).collect()
+    }
+}
+
+/// Each member as often as it has steps.
+fn in_any_order(random: &mut Random, lengths: &[usize]) -> Vec<u8> {
+    let mut picks: Vec<u8> =
+        lengths.iter().enumerate().flat_map(|(member, &steps)| vec![member as u8; steps]).collect();
+    shuffle(random, &mut picks);
+    picks
+}
+
+fn bundle(plans: Vec<Vec<u16>>) -> Bundle {
+    let mut bundle = Bundle::default();
+    for plan in plans {
+        bundle.plans.extend(plan);
+        bundle.ends.push(bundle.plans.len() as u64);
+    }
+    bundle
+}
+
+/// The law of some members among idle ones, with its facts anywhere. A large law has few of them, since each
+/// has its part in every configuration.
+fn idled(random: &mut Random, law: Law, members: usize) -> Law {
+    let most = if law.facts > 20 { 2 } else { MEMBERS - members };
+    let before = random.between(0, most);
+    let after = random.between(0, most - before);
+    let law = amid(law, before, after);
+    scattered(random, law, FACTS)
+}
+
+/// Solo search of a law of one member, which stands among idle ones, in a table of so many rows.
+fn search(random: &mut Random, checked: &impl Interface, law: Law, rows: usize) -> Checked {
+    let law = idled(random, law, 1);
+    let member = law.actions.first().map_or(0, |action| action[0]) as u8;
+    solo::search_in(random, checked, law.words(), member, rows)
+}
+
+/// The verdict with room for what the law needs, at most so many copies and configurations.
+fn judged(random: &mut Random, checked: &impl Interface, law: Law, most: [usize; 2]) -> Checked {
+    let words = law.words();
+    let slices = verdict::enough(random, &words, most);
+    verdict::verdict_on(random, checked, words, slices)
+}

@@ -1,0 +1,629 @@
+//! The comparison finds implementations that are wrong from a size on: the fast twin with one wrong thing in
+//! each, for each quantity that an answer, an index or a loop counts, from 8, 16, 64, 256 and 1024 on.
+
+#[macro_use]
+mod listed;
+
+use compare::driver::{one, Summary};
+use compare::operations::sizes;
+use reference::fast::{copies, count_configurations, read_words, Copies, Fast, Task, DEAD};
+use reference::interface::Interface;
+use std::collections::BTreeMap;
+use std::sync::atomic::{AtomicU64, Ordering};
+use std::sync::Mutex;
+use std::thread;
+
+listed! {
+    /// What is counted. The first part of a name is the operation.
+    #[derive(Clone, Copy, Debug, PartialEq, Eq, PartialOrd, Ord)]
+    enum Quantity {
+        TaskFacts,
+        TaskGoalRow,
+        TaskActionRow,
+        StepAction,
+        StepFact,
+        SoloMember,
+        SoloAction,
+        SoloSteps,
+        SoloBreak,
+        SoloBadEntry,
+        SearchMember,
+        SearchRows,
+        SearchTable,
+        SearchMarks,
+        SearchDistance,
+        SearchCleared,
+        SearchFull,
+        JointMembers,
+        JointMissedMember,
+        JointPicks,
+        JointSuccess,
+        JointCollision,
+        JointDeadlock,
+        JointMissed,
+        JointOpen,
+        JointEntries,
+        JointPlan,
+        JointUnsolved,
+        JointBadEntry,
+        JointBadPick,
+        PickMember,
+        PickPlace,
+        PickCollision,
+        PickImpossible,
+        PickPastEnd,
+        PickEntries,
+        StartFact,
+        PlayPicks,
+        PlayPlace,
+        PlayCollision,
+        PlayPassedOver,
+        VerdictMembers,
+        VerdictActions,
+        VerdictUnsolvable,
+        VerdictMissedMember,
+        VerdictCopies,
+        VerdictMarks,
+        VerdictOffset,
+        VerdictRows,
+        VerdictRobust,
+        VerdictCollision,
+        VerdictDeadlock,
+        VerdictMissed,
+        VerdictPlan,
+        VerdictEntries,
+        VerdictAction,
+        VerdictCleared,
+        VerdictPicksCleared,
+        VerdictFull,
+        ReadRecords,
+        ReadWords,
+        ReadDigits,
+        ReadBytes,
+        ReadBadRecord,
+        ReadCleared,
+    }
+}
+use Quantity::*;
+
+impl Quantity {
+    /// The most that it can be, or that the cases go to where it has no limit.
+    fn most(self) -> usize {
+        match self {
+            TaskGoalRow | SoloMember | SearchMember | JointMembers | JointMissedMember | PickMember
+            | VerdictMembers | VerdictUnsolvable | VerdictMissedMember => 8,
+            ReadDigits => 20,
+            TaskFacts | StepFact | StartFact => 64,
+            TaskActionRow | StepAction | SoloAction | VerdictActions | VerdictAction => 256,
+            ReadRecords | ReadBadRecord => 265,
+            ReadWords => 1325,
+            VerdictCollision | VerdictDeadlock | VerdictPlan | VerdictEntries => 1024,
+            VerdictMissed => 2048,
+            SearchRows | SearchTable | SearchMarks | SearchDistance | SearchCleared | SearchFull
+            | VerdictCopies | VerdictMarks | VerdictOffset | VerdictRows | VerdictRobust | VerdictCleared
+            | VerdictPicksCleared | VerdictFull | ReadCleared => 4096,
+            ReadBytes => 16_384,
+            SoloSteps | SoloBreak | SoloBadEntry | JointPicks | JointSuccess | JointCollision
+            | JointDeadlock | JointMissed | JointOpen | JointEntries | JointPlan | JointUnsolved
+            | JointBadEntry | JointBadPick | PickPlace | PickCollision | PickImpossible | PickPastEnd
+            | PickEntries | PlayPicks | PlayPlace | PlayCollision | PlayPassedOver => 65_536,
+        }
+    }
+}
+
+/// The sizes from which on a twin is wrong.
+const FROM: [usize; 5] = [8, 16, 64, 256, 1024];
+
+type Wrong = (Quantity, usize);
+
+/// Every twin that has to be found.
+fn wrong_twins() -> Vec<Wrong> {
+    let from = |&quantity: &Quantity| {
+        FROM.into_iter().filter(move |&from| from <= quantity.most()).map(move |from| (quantity, from))
+    };
+    Quantity::ALL.iter().flat_map(from).collect()
+}
+
+/// The fast twin, wrong in one quantity from a size on, or in nothing. It notes the largest size of each
+/// quantity that it meets.
+#[derive(Default)]
+struct Twin {
+    wrong: Option<Wrong>,
+    met: Mutex<BTreeMap<Quantity, usize>>,
+}
+
+impl Twin {
+    fn wrong(wrong: Wrong) -> Twin {
+        Twin { wrong: Some(wrong), met: Mutex::default() }
+    }
+
+    /// Whether the answer is wrong at this size.
+    fn at(&self, quantity: Quantity, size: usize) -> bool {
+        let mut met = self.met.lock().expect("no thread fails with the lock");
+        let most = met.entry(quantity).or_default();
+        *most = size.max(*most);
+        self.wrong.is_some_and(|(wrong, from)| wrong == quantity && size >= from)
+    }
+}
+
+/// The first row that the task check refuses, where it is not row 0.
+fn refused_row(task: &[u64]) -> Option<usize> {
+    let until = |row: usize| {
+        let members = (task[1] as usize).min(row);
+        let mut words = vec![task[0], members as u64, (row - members) as u64, task[3], 0];
+        words.extend(&task[5..5 * (row + 1)]);
+        words
+    };
+    (1..task.len() / 5).find(|&row| Fast.task(&until(row)) != 0)
+}
+
+/// How many facts there are up to the highest in a mask.
+fn facts(mask: u64) -> usize {
+    64 - mask.leading_zeros() as usize
+}
+
+fn without_highest(mask: u64) -> u64 {
+    mask & !(1 << (facts(mask) - 1))
+}
+
+/// The largest part between neighbouring ends.
+fn longest(ends: &[u64]) -> (usize, usize) {
+    let begins = std::iter::once(0).chain(ends.iter().copied());
+    let lengths = ends.iter().zip(begins).map(|(end, begin)| (end.saturating_sub(begin)) as usize);
+    lengths.enumerate().max_by_key(|&(_, length)| length).unwrap_or((0, 0))
+}
+
+/// A member's copies, as many as solo search listed.
+fn listed_copies(task: &[u64], member: usize, rows: usize) -> Option<(Task, Copies)> {
+    let task = Task::check(task).ok()?;
+    let copies = copies(&task, member, rows)?;
+    Some((task, copies))
+}
+
+impl Interface for Twin {
+    fn task(&self, task: &[u64]) -> u64 {
+        let refusal = Fast.task(task);
+        match refusal {
+            0 if self.at(TaskFacts, task[0] as usize) => return 2,
+            3..=6 => {
+                let members = task[1] as usize;
+                match refused_row(task) {
+                    Some(row) if row <= members && self.at(TaskGoalRow, row) => return 0,
+                    Some(row) if row > members && self.at(TaskActionRow, row - members) => return 0,
+                    _ => {}
+                }
+            }
+            _ => {}
+        }
+        refusal
+    }
+
+    fn step(&self, task: &[u64], action: u16, shared: &[u64], out: &mut [u64]) -> u64 {
+        let refusal = Fast.step(task, action, shared, out);
+        if refusal == 0 {
+            if self.at(StepAction, action as usize + 1) {
+                out[0] = (out[0] + 1) % 3;
+            }
+            if out[0] == 0 && out[1] != 0 && self.at(StepFact, facts(out[1])) {
+                out[1] = without_highest(out[1]);
+            }
+        }
+        refusal
+    }
+
+    fn solo_replay(&self, task: &[u64], member: u8, plan: &[u16], out: &mut [u64]) -> u64 {
+        let refusal = Fast.solo_replay(task, member, plan, out);
+        if refusal == 7 || refusal == 10 {
+            let good = |&length: &usize| Fast.solo_replay(task, member, &plan[..length], &mut [0; 2]) == 0;
+            let bad = last_good(plan.len(), good);
+            if self.at(SoloBadEntry, bad) {
+                return Fast.solo_replay(task, member, &plan[..bad], out);
+            }
+        }
+        if refusal == 0 {
+            let highest = plan.iter().max().map_or(0, |&action| action as usize + 1);
+            let wrong = match out[0] {
+                1 => self.at(SoloBreak, out[1] as usize),
+                _ => self.at(SoloSteps, plan.len()),
+            };
+            if wrong {
+                match out[0] {
+                    1 => out[1] -= 1,
+                    kind => out[0] = 2 - kind,
+                }
+            }
+            if self.at(SoloMember, member as usize + 1) || self.at(SoloAction, highest) {
+                out[0] = (out[0] + 1) % 3;
+            }
+        }
+        refusal
+    }
+
+    fn solo_search(
+        &self,
+        task: &[u64],
+        member: u8,
+        table: &mut [u64],
+        marks: &mut [u8],
+        out: &mut [u64],
+    ) -> u64 {
+        let last = table.last().copied().unwrap_or(0);
+        let refusal = Fast.solo_search(task, member, table, marks, out);
+        if refusal == 9 && last != 0 && self.at(SearchFull, table.len()) {
+            *table.last_mut().expect("not empty") = last;
+        }
+        if refusal == 0 {
+            let count = out[0] as usize;
+            if last != 0 && count < table.len() && self.at(SearchCleared, table.len() - count) {
+                *table.last_mut().expect("not empty") = last;
+            }
+            if self.at(SearchTable, count) {
+                table[count - 1] ^= 1;
+            }
+            if self.at(SearchMarks, count) {
+                marks[count - 1] ^= 1;
+            }
+            if let Some((_, copies)) = listed_copies(task, member as usize, count) {
+                let far = copies.distance.iter().enumerate().filter(|(_, &distance)| distance != DEAD);
+                let (row, distance) = far.max_by_key(|(_, &distance)| distance).unwrap_or((0, &0));
+                if self.at(SearchDistance, *distance as usize) {
+                    marks[row] = 0;
+                }
+            }
+            if self.at(SearchRows, count) {
+                out[0] -= 1;
+            }
+            if self.at(SearchMember, member as usize + 1) {
+                out[1] ^= 1;
+            }
+        }
+        refusal
+    }
+
+    fn joint_replay(&self, task: &[u64], plans: &[u16], ends: &[u64], picks: &[u8], out: &mut [u64]) -> u64 {
+        let refusal = Fast.joint_replay(task, plans, ends, picks, out);
+        let (_, longest) = longest(ends);
+        match refusal {
+            0 => {
+                let done = out[2] as usize;
+                if self.at(JointEntries, plans.len()) {
+                    return 11;
+                }
+                if self.at(JointPlan, longest) {
+                    return 12;
+                }
+                if out[0] == 3 && self.at(JointMissedMember, out[1] as usize + 1) {
+                    out[1] -= 1;
+                }
+                let kinds = [JointSuccess, JointCollision, JointDeadlock, JointMissed, JointOpen];
+                if self.at(kinds[out[0] as usize], done) || self.at(JointMembers, task[1] as usize) {
+                    out[0] = (out[0] + 1) % 5;
+                }
+                if self.at(JointPicks, done) {
+                    out[2] -= 1;
+                }
+            }
+            7 | 10 => {
+                let known = |&entry: &u16| (entry as u64) < task[2];
+                let owner = |entry: u16| task[5 * (1 + task[1] as usize + entry as usize)];
+                let mut entries = plans.iter().enumerate();
+                let bad = entries.position(|(place, entry)| {
+                    let member = ends.iter().position(|&end| (place as u64) < end).unwrap_or(0);
+                    !known(entry) || owner(*entry) != member as u64
+                });
+                if bad.is_some_and(|bad| self.at(JointBadEntry, bad)) {
+                    return 12;
+                }
+            }
+            12 if self.at(JointUnsolved, longest) => return 11,
+            8 | 13 => {
+                let good = |&length: &usize| {
+                    Fast.joint_replay(task, plans, ends, &picks[..length], &mut [0; 4]) == 0
+                };
+                let bad = last_good(picks.len(), good);
+                if self.at(JointBadPick, bad) {
+                    return Fast.joint_replay(task, plans, ends, &picks[..bad], out);
+                }
+            }
+            _ => {}
+        }
+        refusal
+    }
+
+    fn pick(
+        &self,
+        task: &[u64],
+        plans: &[u16],
+        ends: &[u64],
+        run: &mut [u64],
+        member: u8,
+        out: &mut [u64],
+    ) -> u64 {
+        let before = run.to_vec();
+        let refusal = Fast.pick(task, plans, ends, run, member, out);
+        let place = 1 + member as usize;
+        match refusal {
+            0 => {
+                if out[0] == 0 && self.at(PickPlace, run[place] as usize) {
+                    run[place] -= 1;
+                }
+                if out[0] == 1 && self.at(PickCollision, run[place] as usize) {
+                    out[0] = 0;
+                }
+                if self.at(PickMember, place) || self.at(PickEntries, plans.len()) {
+                    run.copy_from_slice(&before);
+                }
+            }
+            13 if self.at(PickImpossible, run[place] as usize) => return 8,
+            11 if ends.is_sorted() && ends.last() == Some(&(plans.len() as u64)) => {
+                let begins = std::iter::once(0).chain(ends.iter().copied());
+                let lengths = ends.iter().zip(begins).map(|(end, begin)| end - begin);
+                let past = lengths.zip(&run[1..]).find(|(length, &place)| place > *length);
+                if past.is_some_and(|(length, _)| self.at(PickPastEnd, length as usize)) {
+                    return 13;
+                }
+            }
+            _ => {}
+        }
+        refusal
+    }
+
+    fn start(&self, task: &[u64], run: &mut [u64]) -> u64 {
+        let refusal = Fast.start(task, run);
+        if refusal == 0 && run[9] != 0 && self.at(StartFact, facts(run[9])) {
+            run[9] = without_highest(run[9]);
+        }
+        refusal
+    }
+
+    fn play(
+        &self,
+        task: &[u64],
+        plans: &[u16],
+        ends: &[u64],
+        run: &mut [u64],
+        picks: &[u8],
+        answers: &mut [u64],
+    ) -> u64 {
+        let refusal = Fast.play(task, plans, ends, run, picks, answers);
+        if refusal != 0 {
+            return refusal;
+        }
+        let told = &mut answers[..picks.len()];
+        if let Some(collision) = told.iter().position(|&answer| answer == 1) {
+            if self.at(PlayCollision, collision) {
+                told[collision] = 0;
+            }
+        }
+        if let Some(passed) = told.iter().rposition(|&answer| answer > 1) {
+            if self.at(PlayPassedOver, passed) {
+                told[passed] = 0;
+            }
+        }
+        if self.at(PlayPicks, picks.len()) {
+            *told.last_mut().expect("some picks") ^= 1;
+        }
+        let members = task[1] as usize;
+        let moved = (0..members).filter(|&member| picks.contains(&(member as u8)));
+        if let Some(member) = moved.max_by_key(|&member| run[1 + member]) {
+            if self.at(PlayPlace, run[1 + member] as usize) {
+                run[1 + member] -= 1;
+            }
+        }
+        0
+    }
+
+    fn verdict(
+        &self,
+        task: &[u64],
+        local: &mut [u64],
+        marks: &mut [u8],
+        configurations: &mut [u64],
+        trail: &mut [u64],
+        plans: &mut [u16],
+        ends: &mut [u64],
+        picks: &mut [u8],
+        out: &mut [u64],
+    ) -> u64 {
+        let last = configurations.last().copied().unwrap_or(0);
+        let last_pick = picks.last().copied().unwrap_or(0);
+        let refusal = Fast.verdict(task, local, marks, configurations, trail, plans, ends, picks, out);
+        if refusal == 9 && last != 0 && self.at(VerdictFull, configurations.len()) {
+            *configurations.last_mut().expect("not empty") = last;
+        }
+        let (0, Ok(checked)) = (refusal, Task::check(task)) else {
+            return refusal;
+        };
+        let members = checked.members();
+        let rows = local.len() / members;
+        let tables: Vec<Copies> = (0..members).filter_map(|member| copies(&checked, member, rows)).collect();
+        if self.at(VerdictMembers, members) || self.at(VerdictActions, checked.actions.len()) {
+            out[2] += 1;
+        }
+        for (member, table) in tables.iter().enumerate() {
+            let (copies, end) = (table.rows.len(), member * rows + table.rows.len());
+            if self.at(VerdictCopies, copies) || self.at(VerdictOffset, end) {
+                local[end - 1] ^= 1;
+            }
+            if self.at(VerdictMarks, copies) {
+                marks[end - 1] ^= 1;
+            }
+        }
+        if out[0] == 1 {
+            if self.at(VerdictUnsolvable, out[1] as usize + 1) {
+                out[1] -= 1;
+            }
+            return 0;
+        }
+        let count = count_configurations(&checked, &tables, configurations.len()).expect("they were listed");
+        let width = members + 1;
+        if self.at(VerdictRows, count) {
+            configurations[count * width - 1] ^= 1;
+        }
+        let free = configurations.len() - count * width;
+        if last != 0 && free > 0 && self.at(VerdictCleared, free) {
+            *configurations.last_mut().expect("not empty") = last;
+        }
+        let done = out[2] as usize;
+        let used = if out[0] == 0 { 0 } else { done + 1 };
+        if last_pick != 0 && picks.len() > used && self.at(VerdictPicksCleared, picks.len() - used) {
+            *picks.last_mut().expect("not empty") = last_pick;
+        }
+        if out[0] == 0 {
+            if self.at(VerdictRobust, count) {
+                out[2] -= 1;
+            }
+            return 0;
+        }
+        let (member, length) = longest(&ends[..members]);
+        let entries = ends[members - 1] as usize;
+        if length > 0 && self.at(VerdictPlan, length) {
+            plans[ends[member] as usize - 1] ^= 1;
+        }
+        if entries > 0 && self.at(VerdictEntries, entries) {
+            plans[entries - 1] ^= 1;
+        }
+        let highest = (0..entries).max_by_key(|&entry| plans[entry]);
+        if let Some(entry) = highest.filter(|&entry| plans[entry] > 0) {
+            if self.at(VerdictAction, plans[entry] as usize + 1) {
+                plans[entry] -= 1;
+            }
+        }
+        if out[0] == 4 && self.at(VerdictMissedMember, out[1] as usize + 1) {
+            out[1] -= 1;
+        }
+        let kinds = [VerdictCollision, VerdictDeadlock, VerdictMissed];
+        if self.at(kinds[out[0] as usize - 2], done) {
+            out[..3].copy_from_slice(&[0, 0, count as u64]);
+        }
+        0
+    }
+
+    fn read(&self, text: &[u8], words: &mut [u64], out: &mut [u64]) -> u64 {
+        let last = words.last().copied().unwrap_or(0);
+        let refusal = Fast.read(text, words, out);
+        match refusal {
+            0 => {
+                let records = out[0] as usize;
+                let used = 5 * records;
+                if self.at(ReadBytes, text.len()) {
+                    words.fill(0);
+                    return 15;
+                }
+                let (place, digits) = (0..used)
+                    .map(|place| (place, words[place].to_string().len()))
+                    .max_by_key(|&(_, digits)| digits)
+                    .expect("a record");
+                if self.at(ReadDigits, digits) {
+                    words[place] ^= 1;
+                }
+                if self.at(ReadWords, used) {
+                    words[used - 1] ^= 1;
+                }
+                if last != 0 && words.len() > used && self.at(ReadCleared, words.len() - used) {
+                    *words.last_mut().expect("not empty") = last;
+                }
+                if self.at(ReadRecords, records) {
+                    out[0] -= 1;
+                }
+            }
+            15 => {
+                let ends = text.windows(2).enumerate().filter(|(_, pair)| *pair == b"\r\n");
+                let good = ends.take_while(|(end, _)| read_words(&text[..*end]).is_some()).count();
+                if self.at(ReadBadRecord, good + 1) {
+                    return 1;
+                }
+            }
+            _ => {}
+        }
+        refusal
+    }
+}
+
+/// The greatest length up to `length` that is good, where every one below it is.
+fn last_good(length: usize, good: impl Fn(&usize) -> bool) -> usize {
+    let (mut low, mut high) = (0, length);
+    while low < high {
+        let middle = (low + high).div_ceil(2);
+        if good(&middle) {
+            low = middle;
+        } else {
+            high = middle - 1;
+        }
+    }
+    low
+}
+
+const SEED: u64 = 1;
+/// Cases in which a twin is tried.
+const TRIED: usize = 8;
+
+/// The cases that meet each quantity at a size from a power of two up to the next.
+type Met = BTreeMap<(Quantity, u32), Vec<u64>>;
+
+/// What each case meets, by the fast twin with nothing wrong.
+fn met(cases: &[u64]) -> Met {
+    let next = AtomicU64::new(0);
+    let found: Mutex<Met> = Mutex::default();
+    let part = || loop {
+        let Some(&case) = cases.get(next.fetch_add(1, Ordering::Relaxed) as usize) else {
+            return;
+        };
+        let (twin, mut summary) = (Twin::default(), Summary::default());
+        one(&twin, SEED, case, &mut summary);
+        assert_eq!(summary.failed, 0, "case {case} fails with nothing wrong");
+        let met = twin.met.into_inner().expect("no thread fails with the lock");
+        let mut found = found.lock().expect("no thread fails with the lock");
+        for (quantity, size) in met.into_iter().filter(|&(_, size)| size > 0) {
+            found.entry((quantity, size.ilog2())).or_default().push(case);
+        }
+    };
+    thread::scope(|scope| {
+        for _ in 0..2 {
+            scope.spawn(part);
+        }
+    });
+    found.into_inner().expect("no thread fails with the lock")
+}
+
+/// The twins that no case finds. One that is wrong from a size on can differ only in a case that meets it.
+fn unnoticed(twins: &[Wrong], met: &Met) -> Vec<Wrong> {
+    let finds = |twin: &Wrong, case: u64| {
+        let mut summary = Summary::default();
+        one(&Twin::wrong(*twin), SEED, case, &mut summary);
+        summary.failed > 0
+    };
+    let found = |&(quantity, from): &Wrong| {
+        let reached = met.range((quantity, from.ilog2())..=(quantity, u32::MAX));
+        let mut cases = reached.flat_map(|(_, cases)| cases).take(TRIED);
+        cases.any(|&case| finds(&(quantity, from), case))
+    };
+    twins.iter().copied().filter(|twin| !found(twin)).collect()
+}
+
+/// The cases of the comparison that are made for a size.
+fn made_for_a_size() -> Vec<u64> {
+    (0..sizes::count()).map(sizes::case).collect()
+}
+
+#[test]
+fn every_size_is_met_and_every_twin_that_is_wrong_from_a_size_on_is_found() {
+    let met = met(&made_for_a_size());
+    let powers = |&quantity: &Quantity| {
+        // The shortest text of a task has 20 bytes.
+        let least = if quantity == ReadBytes { 16 } else { FROM[0] };
+        (least.ilog2()..=quantity.most().ilog2()).map(move |power| (quantity, power))
+    };
+    let unmet = Quantity::ALL.iter().flat_map(powers).filter(|size| !met.contains_key(size));
+    assert_eq!(unmet.collect::<Vec<_>>(), []);
+    assert_eq!(unnoticed(&wrong_twins(), &met), []);
+}
+
+/// The test above can fail: without the cases made for a size these are not found.
+#[test]
+fn a_twin_that_no_case_reaches_is_not_found() {
+    let large = [(JointPicks, 1024), (SearchRows, 1024), (VerdictCollision, 256)];
+    let made = made_for_a_size();
+    let small: Vec<u64> = (0..3000).filter(|case| !made.contains(case)).collect();
+    assert_eq!(unnoticed(&large, &met(&small)), large);
+}

@@ -1,0 +1,242 @@
+//! Laws made for a size: as many facts, members, actions, copies, configurations, steps or picks as asked.
+
+use super::{shuffle, some, Law};
+use crate::random::Random;
+use std::collections::BTreeSet;
+
+/// The sizes from 1 to `most` at which machines break: each power of two, one less and one more.
+pub fn sizes(most: usize) -> Vec<usize> {
+    let near = (0..usize::BITS - 1).flat_map(|power| [(1 << power) - 1, 1 << power, (1 << power) + 1]);
+    near.filter(|size| (1..=most).contains(size)).collect::<BTreeSet<usize>>().into_iter().collect()
+}
+
+/// Laws side by side: each keeps its facts, members and actions, and sees nothing of the others.
+pub fn beside(laws: &[Law]) -> Law {
+    let mut joined = Law { facts: 0, initial: 0, goals: Vec::new(), actions: Vec::new() };
+    for law in laws {
+        let (facts, members) = (joined.facts, joined.goals.len() as u64);
+        joined.initial |= law.initial << facts;
+        joined.goals.extend(law.goals.iter().map(|goal| goal << facts));
+        joined.actions.extend(law.actions.iter().map(|&[member, pre, wait, add, del]| {
+            [member + members, pre << facts, wait << facts, add << facts, del << facts]
+        }));
+        joined.facts += law.facts;
+    }
+    joined
+}
+
+/// Members with nothing to do, with one fact that holds.
+pub fn idle(members: usize) -> Law {
+    Law { facts: 1, initial: 1, goals: vec![1; members], actions: Vec::new() }
+}
+
+/// A law among idle members: its own come after `before` of them, and `after` come later.
+pub fn amid(law: Law, before: usize, after: usize) -> Law {
+    beside(&[idle(before), law, idle(after)])
+}
+
+/// The same law with its facts anywhere among `facts` of them.
+pub fn scattered(random: &mut Random, law: Law, facts: usize) -> Law {
+    let facts = facts.max(law.facts);
+    let mut places: Vec<usize> = (0..facts).collect();
+    shuffle(random, &mut places);
+    let moved = |mask: u64| {
+        (0..law.facts).filter(|fact| mask >> fact & 1 == 1).fold(0, |new, fact| new | 1 << places[fact])
+    };
+    let row =
+        |&[member, pre, wait, add, del]: &[u64; 5]| [member, moved(pre), moved(wait), moved(add), moved(del)];
+    Law {
+        facts,
+        initial: moved(law.initial),
+        goals: law.goals.iter().map(|&goal| moved(goal)).collect(),
+        actions: law.actions.iter().map(row).collect(),
+    }
+}
+
+/// One member who counts up in base two: `rows` local copies, each led to by the one before alone. The goal is
+/// the last of them. Bit k of the count is fact 2k + 1, and fact 2k where it is 0.
+pub fn odometer(rows: usize) -> Law {
+    let bits = rows.next_power_of_two().trailing_zeros().max(1) as usize;
+    let zero = |bit: usize| 1u64 << (2 * bit);
+    let one = |bit: usize| 1u64 << (2 * bit + 1);
+    let state = |count: usize| {
+        let fact = |bit: usize| if count >> bit & 1 == 1 { one(bit) } else { zero(bit) };
+        (0..bits).map(fact).sum()
+    };
+    let actions = (0..bits)
+        .map(|bit| {
+            let (ones, zeros): (u64, u64) = ((0..bit).map(one).sum(), (0..bit).map(zero).sum());
+            [0, zero(bit) | ones, 0, one(bit) | zeros, zero(bit) | ones]
+        })
+        .collect();
+    let (first, last) = ((1 << bits) - rows, (1 << bits) - 1);
+    Law { facts: 2 * bits, initial: state(first), goals: vec![state(last)], actions }
+}
+
+/// The odometer's plan: all its steps in turn.
+pub fn odometer_plan(rows: usize) -> Vec<u16> {
+    let bits = rows.next_power_of_two().trailing_zeros().max(1);
+    let last = (1usize << bits) - 1;
+    ((last + 1 - rows)..last).map(|count: usize| count.trailing_ones() as u16).collect()
+}
+
+/// How a run ends that is not a success.
+#[derive(Clone, Copy, Debug, PartialEq)]
+pub enum Fault {
+    Collision,
+    Deadlock,
+    Missed,
+}
+
+/// Two members. Member 0 has one plan, of `picks` steps; the last takes a shared fact away that member 1's one
+/// step needs or waits for, or that member 1 wants in the end. No fault comes before.
+pub fn fault_after(picks: usize, fault: Fault) -> Law {
+    let mut law = odometer(picks);
+    let [shared, done, ready, reached] = [0, 1, 2, 3].map(|fact| 1u64 << (law.facts + fact));
+    let counted = law.goals[0];
+    law.facts += 4;
+    law.initial |= shared | ready;
+    law.actions.push([0, counted, 0, done, counted | shared]);
+    law.goals = vec![done, reached];
+    match fault {
+        Fault::Missed => law.goals[1] = shared,
+        Fault::Collision => law.actions.push([1, shared | ready, 0, reached, ready]),
+        Fault::Deadlock => law.actions.push([1, shared | ready, shared, reached, ready]),
+    }
+    law
+}
+
+/// Two members. Member 1's one step takes a shared fact away that member 0's first step needs, and waits for
+/// where it is a deadlock; after that step member 0 has `steps` more to its goal. So the picks of a conflict are
+/// few and its plans are long.
+pub fn fault_before(steps: usize, fault: Fault) -> Law {
+    let mut law = odometer(steps + 1);
+    let [shared, fresh, begun, taken] = [0, 1, 2, 3].map(|fact| 1u64 << (law.facts + fact));
+    law.facts += 4;
+    law.initial |= shared | fresh;
+    for action in &mut law.actions {
+        action[1] |= begun;
+    }
+    law.goals = vec![law.goals[0] | begun, taken];
+    let wait = if fault == Fault::Deadlock { shared } else { 0 };
+    law.actions.push([0, shared | fresh, wait, begun, fresh]);
+    law.actions.push([1, 0, 0, taken, shared]);
+    law
+}
+
+/// Members who turn a fact of their own on and off as often as they like, and share one fact that each of them
+/// can take away, can need and can wait for.
+pub struct Turns {
+    pub law: Law,
+}
+
+impl Turns {
+    pub fn new(members: usize) -> Turns {
+        let shared = 1 << members;
+        let mut law =
+            Law { facts: members + 1, initial: shared, goals: vec![0; members], actions: Vec::new() };
+        for member in 0..members {
+            let own = 1 << member;
+            law.actions.extend([
+                [member as u64, 0, 0, own, 0],
+                [member as u64, own, 0, 0, own],
+                [member as u64, 0, 0, 0, shared],
+                [member as u64, shared, 0, 0, 0],
+                [member as u64, shared, shared, 0, 0],
+            ]);
+        }
+        Turns { law }
+    }
+
+    /// So many steps that turn the member's fact on and off.
+    pub fn plan(&self, member: usize, steps: usize) -> Vec<u16> {
+        (0..steps).map(|step| (5 * member + step % 2) as u16).collect()
+    }
+
+    /// The step that takes the shared fact away.
+    pub fn takes(&self, member: usize) -> u16 {
+        5 * member as u16 + 2
+    }
+
+    /// The step that needs the shared fact.
+    pub fn needs(&self, member: usize) -> u16 {
+        5 * member as u16 + 3
+    }
+
+    /// The step that waits for the shared fact.
+    pub fn waits(&self, member: usize) -> u16 {
+        5 * member as u16 + 4
+    }
+
+    /// The member wants the shared fact in the end.
+    pub fn wants(&mut self, member: usize) {
+        self.law.goals[member] = 1 << self.law.goals.len();
+    }
+}
+
+/// A law of `actions` actions of which only the last does anything: it is member 0's way to its goal.
+pub fn last_action(actions: usize) -> Law {
+    let (goal, never) = (1, 2);
+    let mut rows = vec![[0, never, 0, goal, 0]; actions];
+    if let Some(last) = rows.last_mut() {
+        last[1] = 0;
+    }
+    Law { facts: 2, initial: 0, goals: vec![goal], actions: rows }
+}
+
+/// A law of `facts` facts in which the last is what one action adds, one needs and one takes away.
+pub fn last_fact(random: &mut Random, facts: usize) -> Law {
+    let last = 1 << (facts - 1);
+    let initial = some(random, facts);
+    let actions = vec![[0, 0, 0, last, 0], [0, last, 0, 0, last], [0, last, last, 0, 0]];
+    Law { facts, initial, goals: vec![last], actions }
+}
+
+/// Members of whom the last alone has no plan.
+pub fn last_unsolvable(members: usize) -> Law {
+    let mut goals = vec![1; members - 1];
+    goals.push(2);
+    Law { facts: 2, initial: 1, goals, actions: vec![[members as u64 - 1, 1, 0, 1, 0]] }
+}
+
+/// A law of 64 facts, one member and no action whose initial mask has so many digits.
+pub fn digits(random: &mut Random, digits: u32) -> Law {
+    let least = 10u64.pow(digits - 1);
+    let most = least.checked_mul(10).map_or(u64::MAX, |next| next - 1);
+    let initial = least + random.word() % (most - least + 1);
+    Law { facts: 64, initial, goals: vec![initial], actions: Vec::new() }
+}
+
+/// The same law with `actions` actions: before its own stand some that need what nobody adds.
+pub fn padded(law: Law, actions: usize) -> Law {
+    let (never, own) = (1u64 << law.facts, law.actions.len());
+    let unused = (own..actions).map(|_| [0, never, 0, never, never]);
+    Law { facts: law.facts + 1, actions: unused.chain(law.actions.iter().copied()).collect(), ..law }
+}
+
+/// The odometer with a goal on the way: every row after it is dead.
+pub fn odometer_past(rows: usize, goal: usize) -> Law {
+    let mut law = odometer(rows);
+    let plan = odometer_plan(rows);
+    law.goals[0] = plan[..goal].iter().fold(law.initial, |state, &number| {
+        let [_, _, _, add, del] = law.actions[number as usize];
+        (state & !del) | add
+    });
+    law
+}
+
+/// A law of so many records and 64 facts, with any masks of the first `used` of them.
+pub fn records(random: &mut Random, records: usize, used: usize) -> Law {
+    let members = random.between(1, (records - 1).min(8)).max((records - 1).saturating_sub(256));
+    let mask = |random: &mut Random| some(random, used);
+    let row = |random: &mut Random| {
+        let pre = mask(random);
+        [random.below(members) as u64, pre, pre & mask(random), mask(random), mask(random)]
+    };
+    Law {
+        facts: 64,
+        initial: mask(random),
+        goals: (0..members).map(|_| mask(random)).collect(),
+        actions: (0..records - 1 - members).map(|_| row(random)).collect(),
+    }
+}
