@@ -47,6 +47,11 @@ pub fn long_run(steps: usize) -> (Law, Vec<u16>, Vec<u64>, Vec<u8>) {
     (law, plans, ends, picks)
 }
 
+/// One member who turns a fact over and back, with a plan of about so many steps that solves.
+pub fn long_plan(steps: usize) -> (Law, Vec<u16>) {
+    (counters(1, 1), (0..steps + 1 - steps % 2).map(|step| (step % 2) as u16).collect())
+}
+
 /// A text with this many records, all masks wide: F = 64, n = 8.
 pub fn wide_text(records: usize) -> String {
     let (members, wide) = (8, u64::MAX);

@@ -1,14 +1,16 @@
 //! Benchmarks: the C interface beside the fast twin, same input, both built for release, in one run.
 //!
-//! A line of the table has the operation, the law, its rows (local copies, configurations, steps or records), its
-//! actions, and ratios of times: the library's to the twin's (above 1 the twin is faster), and where the table is
-//! about growth, each side's to its own in the first line of that operation and law.
+//! It prints Markdown tables. A line has the operation, the law, its rows (local copies, configurations, steps
+//! or records), its actions, the ratio of times (the library's to the twin's: above 1 the twin is faster) and
+//! its spread; where the table is about growth also each side's time beside its own in the group's first line.
+//! With the argument `short` each measurement is short, to see that all of them run.
 #![forbid(unsafe_code)]
 
 // Brings the functions that the wrapper declares.
 #[cfg(feature = "mock")]
 extern crate mock as _;
 
+mod command;
 mod laws;
 mod sides;
 mod timing;
@@ -16,54 +18,26 @@ mod timing;
 use reference::generate::Law;
 use sides::{Side, Slices};
 use std::time::Duration;
-use timing::{ratio, shortest};
+use timing::{figure, Budget, Times};
 
 fn main() {
-    let first = if cfg!(feature = "mock") { "the fast twin in the library's place" } else { "the library" };
-    println!("Ratios of times: {first}, and the fast twin.");
-    println!("\nTables that are full\n");
-    println!("| operation | law | rows | actions | library / twin |");
-    println!("|---|---|---|---|---|");
-    for measured in [
-        solo_search("4096 copies", laws::counter(12)),
-        verdict("one member, 4096 configurations", laws::counter(12)),
-        verdict("grid 12 x 13 x 13", laws::grid(&[12, 13, 13])),
-        verdict("grid of eight members", laws::grid(&[3, 3, 3, 2, 2, 2, 2, 2])),
-        verdict("grid 12 x 13 x 13, a goal missed", laws::grid_with_fault(&[12, 13, 13])),
-        joint_replay(65_536),
-        reader(265),
-    ] {
-        println!("{} |", measured.line());
+    let short = match std::env::args().nth(1).as_deref() {
+        None => false,
+        Some("short") => true,
+        Some(other) => {
+            eprintln!("bench: no such argument: {other}\nusage: bench [short]");
+            std::process::exit(2);
+        }
+    };
+    let budget = if short { Budget::Short } else { Budget::UpTo(Duration::from_secs(8)) };
+    let bench = Bench { budget };
+    if cfg!(feature = "mock") {
+        println!("The fast twin stands in the library's place.\n");
     }
-
-    println!("\nOne pick beside the replay of all picks, each by the library\n");
-    println!("| steps | pick / replay |");
-    println!("|---|---|");
-    for steps in [256, 1024, 4096, 16_384] {
-        let (one, all) = (pick(steps), joint_replay(steps));
-        println!("| {} | {:.2} |", all.rows, ratio(one.library, all.library));
+    bench.tables();
+    if !cfg!(feature = "mock") {
+        bench.whole_run();
     }
-
-    growth("Growth with rows");
-    grows((4..=12).map(|facts| solo_search("one member", laws::repeated(laws::counter(facts), 24))));
-    grows((4..=12).map(|facts| verdict("one member", laws::repeated(laws::counter(facts), 24))));
-    grows([4, 6, 8, 10, 12].map(|length| verdict("cube", laws::grid(&[length, length, length]))));
-    grows([256, 1024, 4096, 16_384].map(joint_replay));
-    grows([256, 1024, 4096, 16_384].map(pick));
-    grows([17, 33, 65, 129].map(reader));
-
-    growth("Growth with actions");
-    let times = [16, 32, 64, 128, 256];
-    grows(times.map(|actions| solo_search("256 copies", laws::repeated(laws::counter(8), actions))));
-    grows(times.map(|actions| verdict("256 configurations", laws::repeated(laws::counter(8), actions))));
-    let times = [21, 42, 84, 168, 252];
-    grows(times.map(|actions| verdict("cube of 512", laws::repeated(laws::grid(&[8, 8, 8]), actions))));
-}
-
-fn growth(title: &str) {
-    println!("\n{title}\n");
-    println!("| operation | law | rows | actions | library / twin | library's growth | twin's growth |");
-    println!("|---|---|---|---|---|---|---|");
 }
 
 /// One operation on one law, timed on both sides.
@@ -72,79 +46,203 @@ struct Measured {
     law: &'static str,
     rows: usize,
     actions: usize,
-    library: Duration,
-    twin: Duration,
+    times: Times,
 }
 
 impl Measured {
     fn line(&self) -> String {
-        let Measured { operation, law, rows, actions, library, twin } = self;
-        format!("| {operation} | {law} | {rows} | {actions} | {:.2}", ratio(*library, *twin))
+        let Measured { operation, law, rows, actions, times } = self;
+        let spread = 100.0 * times.spread;
+        format!("| {operation} | {law} | {rows} | {actions} | {} | {spread:.0} %", figure(times.ratio))
     }
+}
+
+struct Bench {
+    budget: Budget,
+}
+
+impl Bench {
+    fn tables(&self) {
+        println!("## Tables that are full\n");
+        println!("| operation | law | rows | actions | library / twin | spread |");
+        println!("|---|---|---|---|---|---|");
+        for measured in [
+            self.solo_search("4096 copies", laws::counter(12)),
+            self.verdict("one member, 4096 configurations", laws::counter(12)),
+            self.verdict("grid 12 x 13 x 13", laws::grid(&[12, 13, 13])),
+            self.verdict("grid of eight members", laws::grid(&[3, 3, 3, 2, 2, 2, 2, 2])),
+            self.verdict("grid 12 x 13 x 13, a goal missed", laws::grid_with_fault(&[12, 13, 13])),
+            self.joint_replay(65_536),
+            self.reader(265),
+        ] {
+            println!("{} |", measured.line());
+        }
+
+        println!("\n## One pick beside the replay of all picks, each by the library\n");
+        println!("| steps | pick / replay | spread |");
+        println!("|---|---|---|");
+        for steps in [256, 1024, 4096, 16_384] {
+            let (rows, times) = self.pick_beside_replay(steps);
+            println!("| {rows} | {} | {:.0} % |", figure(times.ratio), 100.0 * times.spread);
+        }
+
+        growth("Growth with rows");
+        grows((4..=12).map(|facts| self.solo_search("one member", laws::repeated(laws::counter(facts), 24))));
+        grows((4..=12).map(|facts| self.verdict("one member", laws::repeated(laws::counter(facts), 24))));
+        grows([4, 6, 8, 10, 12].map(|length| self.verdict("cube", laws::grid(&[length, length, length]))));
+        let steps = [256, 1024, 4096, 16_384];
+        grows(steps.map(|steps| self.solo_replay(steps)));
+        grows(steps.map(|steps| self.joint_replay(steps)));
+        grows(steps.map(|steps| self.pick(steps)));
+        grows([17, 33, 65, 129].map(|records| self.reader(records)));
+
+        growth("Growth with actions");
+        let times = [16, 32, 64, 128, 256];
+        grows(times.map(|actions| self.task_check(actions)));
+        grows(times.map(|actions| self.step(actions)));
+        let counter = |actions| laws::repeated(laws::counter(8), actions);
+        grows(times.map(|actions| self.solo_search("256 copies", counter(actions))));
+        grows(times.map(|actions| self.verdict("256 configurations", counter(actions))));
+        let cube = |actions| laws::repeated(laws::grid(&[8, 8, 8]), actions);
+        grows([21, 42, 84, 168, 252].map(|actions| self.verdict("cube of 512", cube(actions))));
+    }
+
+    /// What a person waits for: a run of the command on a law that fills the tables, beside the verdict alone.
+    fn whole_run(&self) {
+        let words = command::law();
+        let mut twin = Slices::new(Side::Twin);
+        let verdict = self.verdict_of(&words);
+        println!("\n## A whole run of `./lawcheck {}`\n", command::LAW);
+        println!("| what | seconds | beside the twin's verdict | spread |");
+        println!("|---|---|---|---|");
+        let line = |what: &str, times: Times| {
+            let (seconds, spread) = (figure(times.first), 100.0 * times.spread);
+            println!("| {what} | {seconds} | {} | {spread:.0} % |", figure(times.ratio));
+        };
+        line("the library's verdict on its words", verdict);
+        for what in [command::PROGRAM, command::COMMAND] {
+            line(&format!("`{what}`"), self.budget.measure(|| command::run(what), || twin.verdict(&words)));
+        }
+    }
+
+    /// Runs an operation on both sides, asks for one answer, then times both on the same slices: warm, and each
+    /// run finds in the slices what the last one left.
+    fn measure(
+        &self,
+        operation: &'static str,
+        law: &'static str,
+        actions: usize,
+        run: impl Fn(&mut Slices),
+        check: impl Fn(&Slices) -> Result<usize, String>,
+    ) -> Measured {
+        let [mut library, mut twin] = [Side::Library, Side::Twin].map(Slices::new);
+        run(&mut library);
+        run(&mut twin);
+        assert_eq!(library.returned, 0, "{operation} on {law} is refused");
+        assert!(library.agree(&twin), "{operation} on {law}: the answers differ");
+        let rows = [&library, &twin]
+            .map(|slices| check(slices).unwrap_or_else(|wrong| panic!("{operation} on {law}: {wrong}")));
+        assert_eq!(rows[0], rows[1], "{operation} on {law}: the answers differ");
+        let times = self.budget.measure(|| run(&mut library), || run(&mut twin));
+        assert!(library.agree(&twin), "{operation} on {law}: a later answer differs");
+        Measured { operation, law, rows: rows[0], actions, times }
+    }
+
+    fn task_check(&self, actions: usize) -> Measured {
+        let law = laws::repeated(laws::counter(8), actions);
+        let words = law.words();
+        let rows = 2 + actions;
+        self.measure("task check", "one member", actions, |slices| slices.task(&words), |_| Ok(rows))
+    }
+
+    /// The last action, at a shared copy at which it goes.
+    fn step(&self, actions: usize) -> Measured {
+        let law = laws::repeated(laws::counter(8), actions);
+        let words = law.words();
+        let run = |slices: &mut Slices| slices.step(&words, actions as u16 - 1, law.known());
+        self.measure("step", "one member", actions, run, |_| Ok(1))
+    }
+
+    fn solo_replay(&self, steps: usize) -> Measured {
+        let (law, plan) = laws::long_plan(steps);
+        let words = law.words();
+        let run = |slices: &mut Slices| slices.solo_replay(&words, &plan);
+        self.measure("solo replay", "one member", law.actions.len(), run, |_| Ok(plan.len()))
+    }
+
+    fn solo_search(&self, name: &'static str, law: Law) -> Measured {
+        let words = law.words();
+        let run = |slices: &mut Slices| slices.solo_search(&words);
+        self.measure("solo search", name, law.actions.len(), run, |slices| Ok(slices.out[0] as usize))
+    }
+
+    fn verdict(&self, name: &'static str, law: Law) -> Measured {
+        let words = law.words();
+        let run = |slices: &mut Slices| slices.verdict(&words);
+        let rows = |slices: &Slices| {
+            slices.conflict(&words)?;
+            Ok(slices.configurations(law.goals.len() + 1))
+        };
+        self.measure("verdict", name, law.actions.len(), run, rows)
+    }
+
+    fn verdict_of(&self, words: &[u64]) -> Times {
+        let run = |slices: &mut Slices| slices.verdict(words);
+        let check = |slices: &Slices| slices.conflict(words).map(|()| 0);
+        self.measure("verdict", "the law of the whole run", 0, run, check).times
+    }
+
+    fn joint_replay(&self, steps: usize) -> Measured {
+        let (law, plans, ends, picks) = laws::long_run(steps);
+        let words = law.words();
+        let run = |slices: &mut Slices| slices.joint_replay(&words, &plans, &ends, &picks);
+        let rows = |slices: &Slices| Ok(slices.out[2] as usize);
+        self.measure("joint replay", "eight members in turn", law.actions.len(), run, rows)
+    }
+
+    /// The rows are the plans' steps, all of which a pick looks at.
+    fn pick(&self, steps: usize) -> Measured {
+        let (law, plans, ends, _) = laws::long_run(steps);
+        let words = law.words();
+        let run = |slices: &mut Slices| slices.pick(&words, &plans, &ends);
+        self.measure("one pick", "eight members in turn", law.actions.len(), run, |_| Ok(plans.len()))
+    }
+
+    /// One pick and the replay of all, both by the library.
+    fn pick_beside_replay(&self, steps: usize) -> (usize, Times) {
+        let (law, plans, ends, picks) = laws::long_run(steps);
+        let words = law.words();
+        let [mut one, mut all] = [Side::Library, Side::Library].map(Slices::new);
+        let times = self
+            .budget
+            .measure(|| one.pick(&words, &plans, &ends), || all.joint_replay(&words, &plans, &ends, &picks));
+        assert_eq!((one.returned, all.returned), (0, 0), "a pick or a replay is refused");
+        (plans.len(), times)
+    }
+
+    fn reader(&self, records: usize) -> Measured {
+        let text = laws::wide_text(records);
+        let run = |slices: &mut Slices| slices.read(text.as_bytes());
+        let rows = |slices: &Slices| Ok(slices.out[0] as usize);
+        self.measure("reader", "wide masks", records - 9, run, rows)
+    }
+}
+
+fn growth(title: &str) {
+    println!("\n## {title}\n");
+    println!(
+        "| operation | law | rows | actions | library / twin | spread | library's growth | twin's growth |"
+    );
+    println!("|---|---|---|---|---|---|---|---|");
 }
 
 /// A line for each, with both sides' times beside their times in the first.
 fn grows(group: impl IntoIterator<Item = Measured>) {
-    let group: Vec<Measured> = group.into_iter().collect();
-    for measured in &group {
-        let library = ratio(measured.library, group[0].library);
-        let twin = ratio(measured.twin, group[0].twin);
-        println!("{} | {library:.1} | {twin:.1} |", measured.line());
+    let mut first: Option<Times> = None;
+    for measured in group {
+        let first = first.get_or_insert(measured.times);
+        let library = figure(measured.times.first / first.first);
+        let twin = figure(measured.times.second / first.second);
+        println!("{} | {library} | {twin} |", measured.line());
     }
-}
-
-/// Runs an operation on both sides, asks for the same answer, and times both.
-fn measure(
-    operation: &'static str,
-    law: &'static str,
-    actions: usize,
-    run: impl Fn(&mut Slices),
-    rows: impl Fn(&Slices) -> usize,
-) -> Measured {
-    let (mut library, mut twin) = (Slices::new(Side::Library), Slices::new(Side::Twin));
-    let times = shortest(|| run(&mut library), || run(&mut twin));
-    assert_eq!(library.returned, 0, "{operation} on {law} is refused");
-    assert_eq!(twin.returned, 0, "{operation} on {law} is refused by the twin");
-    assert_eq!(rows(&library), rows(&twin), "{operation} on {law}: the answers differ");
-    let [first, second] = times;
-    Measured { operation, law, rows: rows(&library), actions, library: first, twin: second }
-}
-
-fn solo_search(name: &'static str, law: Law) -> Measured {
-    let words = law.words();
-    let run = |slices: &mut Slices| slices.solo_search(&words);
-    measure("solo search", name, law.actions.len(), run, |slices| slices.out[0] as usize)
-}
-
-fn verdict(name: &'static str, law: Law) -> Measured {
-    let words = law.words();
-    let width = law.goals.len() + 1;
-    let run = |slices: &mut Slices| slices.verdict(&words);
-    let rows = |slices: &Slices| match slices.out[0] {
-        0 => slices.out[2] as usize,
-        _ => slices.configurations.chunks(width).filter(|row| row.iter().any(|&word| word != 0)).count(),
-    };
-    measure("verdict", name, law.actions.len(), run, rows)
-}
-
-fn joint_replay(steps: usize) -> Measured {
-    let (law, plans, ends, picks) = laws::long_run(steps);
-    let words = law.words();
-    let run = |slices: &mut Slices| slices.joint_replay(&words, &plans, &ends, &picks);
-    let rows = |slices: &Slices| slices.out[2] as usize;
-    measure("joint replay", "eight members in turn", law.actions.len(), run, rows)
-}
-
-/// The rows are the plans' steps, all of which a pick looks at.
-fn pick(steps: usize) -> Measured {
-    let (law, plans, ends, _) = laws::long_run(steps);
-    let words = law.words();
-    let run = |slices: &mut Slices| slices.pick(&words, &plans, &ends);
-    measure("one pick", "eight members in turn", law.actions.len(), run, |_| plans.len())
-}
-
-fn reader(records: usize) -> Measured {
-    let text = laws::wide_text(records);
-    let run = |slices: &mut Slices| slices.read(text.as_bytes());
-    measure("reader", "wide masks", records - 9, run, |slices| slices.out[0] as usize)
 }

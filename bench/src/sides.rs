@@ -2,6 +2,8 @@
 
 use reference::fast::Fast;
 use reference::interface::Interface;
+use reference::paper::conflict::Conflict;
+use reference::paper::run::Outcome;
 
 /// Words of the verdict program's tables.
 const LOCAL: usize = 4096;
@@ -19,12 +21,13 @@ pub struct Slices {
     side: Side,
     local: Vec<u64>,
     marks: Vec<u8>,
-    pub configurations: Vec<u64>,
+    configurations: Vec<u64>,
     trail: Vec<u64>,
     plans: Vec<u16>,
     ends: Vec<u64>,
     picks: Vec<u8>,
     words: Vec<u64>,
+    run: [u64; lawcheck::raw::RUN_WORDS],
     pub returned: u64,
     pub out: [u64; 4],
 }
@@ -40,10 +43,32 @@ impl Slices {
             plans: vec![0; CONFIGURATIONS / 2 + LOCAL],
             ends: vec![0; 8],
             picks: vec![0; CONFIGURATIONS / 2],
-            words: vec![0; 1325],
+            words: vec![0; lawcheck::raw::TEXT_WORDS],
+            run: [0; lawcheck::raw::RUN_WORDS],
             returned: 0,
             out: [0; 4],
         }
+    }
+
+    pub fn task(&mut self, task: &[u64]) {
+        self.returned = match self.side {
+            Side::Library => lawcheck::raw::task(task),
+            Side::Twin => Fast.task(task),
+        };
+    }
+
+    pub fn step(&mut self, task: &[u64], action: u16, shared: u64) {
+        self.returned = match self.side {
+            Side::Library => lawcheck::raw::step(task, action, &[shared], &mut self.out),
+            Side::Twin => Fast.step(task, action, &[shared], &mut self.out),
+        };
+    }
+
+    pub fn solo_replay(&mut self, task: &[u64], plan: &[u16]) {
+        self.returned = match self.side {
+            Side::Library => lawcheck::raw::solo_replay(task, 0, plan, &mut self.out),
+            Side::Twin => Fast.solo_replay(task, 0, plan, &mut self.out),
+        };
     }
 
     pub fn solo_search(&mut self, task: &[u64]) {
@@ -73,11 +98,12 @@ impl Slices {
 
     /// One pick of member 0 on a run at its start.
     pub fn pick(&mut self, task: &[u64], plans: &[u16], ends: &[u64]) {
-        let mut run = [0; lawcheck::raw::RUN_WORDS];
-        run[lawcheck::raw::RUN_SHARED] = task[3];
+        self.run = [0; lawcheck::raw::RUN_WORDS];
+        self.run[lawcheck::raw::RUN_SHARED] = task[3];
+        let (run, out) = (&mut self.run, &mut self.out);
         self.returned = match self.side {
-            Side::Library => lawcheck::raw::pick(task, plans, ends, &mut run, 0, &mut self.out),
-            Side::Twin => Fast.pick(task, plans, ends, &mut run, 0, &mut self.out),
+            Side::Library => lawcheck::raw::pick(task, plans, ends, run, 0, out),
+            Side::Twin => Fast.pick(task, plans, ends, run, 0, out),
         };
     }
 
@@ -86,5 +112,46 @@ impl Slices {
             Side::Library => lawcheck::raw::read(text, &mut self.words, &mut self.out),
             Side::Twin => Fast.read(text, &mut self.words, &mut self.out),
         };
+    }
+
+    /// The configurations that a verdict listed, in rows of this many words; after a fault those that are not
+    /// all zeros, which no law here has.
+    pub fn configurations(&self, width: usize) -> usize {
+        if self.out[0] == 0 {
+            return self.out[2] as usize;
+        }
+        self.configurations.chunks(width).filter(|row| row.iter().any(|&word| word != 0)).count()
+    }
+
+    /// Whether both hold one answer: the return, the numbers, every table and the run. A conflict is free, and
+    /// is not looked at here.
+    pub fn agree(&self, other: &Slices) -> bool {
+        self.returned == other.returned
+            && self.out == other.out
+            && self.local == other.local
+            && self.marks == other.marks
+            && self.configurations == other.configurations
+            && self.words == other.words
+            && self.run == other.run
+    }
+
+    /// Whether the conflict slices hold what the verdict's answer asks: a conflict that replays to it, or zeros.
+    pub fn conflict(&self, task: &[u64]) -> Result<(), String> {
+        let members = task[1] as usize;
+        let listed = self.configurations(members + 1);
+        let [kind, member, done, _] = self.out;
+        let outcome = match kind {
+            2 => Outcome::Collision,
+            3 => Outcome::Deadlock,
+            4 => Outcome::Missed(member as usize),
+            _ => {
+                let zero = self.plans.iter().all(|&entry| entry == 0)
+                    && self.ends.iter().all(|&end| end == 0)
+                    && self.picks.iter().all(|&pick| pick == 0);
+                return if zero { Ok(()) } else { Err("a conflict where there is none".into()) };
+            }
+        };
+        let (plans, ends, picks) = (&self.plans, &self.ends, &self.picks);
+        Conflict { outcome, done, plans, ends, picks }.check(task, members, listed)
     }
 }
