@@ -37,7 +37,7 @@ use Rattle.semantics.specs.Base.{Answer, refused, gives}
 use Rattle.semantics.specs.Mask.{has, below}
 use Rattle.semantics.specs.Task as Task
 use Rattle.semantics.specs.Task.{check, facts, members, actions, owner}
-use Rattle.semantics.specs.System.{System, Waits, system, waits, Choice}
+use Rattle.semantics.specs.System.{System, Waits, result, system, waits, Choice}
 use Rattle.semantics.specs.Listing.{addAll}
 use Rattle.semantics.specs.Step.{Decision, stepRefusal, step}
 use Rattle.semantics.specs.Solo.{Solo, soloRefusal, soloReplay, soloNext, searchRefusal, soloSearch}
@@ -279,7 +279,7 @@ pub data Configured (t : List ℕ) : List ℕ → Type 0 where
   by-move : {c : List ℕ} {i a : ℕ} → Configured t c → setting t .ActionOf i a
       → setting t .pre a ⊆ factsOf (localCopy (system t) c i)
       → setting t .pre a ⊆ factsOf (sharedCopy (system t) c)
-      → Completable t i (system t .result a (localCopy (system t) c i))
+      → Completable t i (result (system t) a (localCopy (system t) c i))
       → Configured t (moved (system t) c a)
 
 -- the listed configurations are those that can be reached, each once, in breadth order, by moves with a right test of liveness

@@ -6,7 +6,7 @@ use lib.Dec.{ltb}
 use Rattle.semantics.specs.Base.{_if_, _else_, Answer, gives, unless}
 use Rattle.semantics.specs.Mask.{below}
 use Rattle.semantics.specs.Task.{check, facts, actions}
-use Rattle.semantics.specs.System.{System, Waits, system, waits}
+use Rattle.semantics.specs.System.{System, Waits, tried, system, waits}
 
 -- what a pending action answers at a shared copy
 pub data Decision (State : Type 0) : Type 0 where
@@ -26,7 +26,7 @@ isCollision collision = true
 
 -- action a at the shared copy g
 unfoldable pub routine : (S : System) → Waits S → ℕ → S .State → Decision (S .State)
-routine S waits a g = cond (waits a g) wait (cond (S .able a g) (go (S .result a g)) collision)
+routine S waits a g = cond (waits a g) wait (tried (S .act a g) go collision)
 
 abbrev pub stepRefusal : List ℕ → ℕ → ℕ → ℕ
 stepRefusal t a g = check t else (7 if not (ltb a (actions t))) else (4 if not (below (facts t) g))

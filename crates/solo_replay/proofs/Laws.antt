@@ -1,5 +1,5 @@
 -- A plan's entry, its replay turn by turn, and the operation's ways out.
-use mathlib.Core.Path.{_≡_, refl, sym, _∙_}
+use mathlib.Core.Path.{_≡_, refl, sym, ap, _∙_}
 use mathlib.Core.Bool.{Bool, true, false, not}
 use mathlib.Core.List.{List}
 use Prim.Native.Nat.{ℕ, zero, suc, _+_, _≤_, _<_}
@@ -12,8 +12,13 @@ use borrow.Author.Tests.{lt-ltb, le-ltb, ltb-true, eq-eqb, ne-eqb, not-true, not
 use Rattle.semantics.specs.Base.{firstRefusal, refused, gives}
 use Rattle.semantics.specs.Mask.{within}
 use Rattle.semantics.specs.Task.{check, members, actions, owner, initial, goal}
-use Rattle.semantics.specs.System.{system}
+use Rattle.semantics.specs.System.{goes, lacks, system}
 use Rattle.semantics.specs.Solo.{Solo, solves, breaks, short, soloFrom, entry, soloReplay}
+use Rattle.mask.specs.Number.{localNumber}
+use Rattle.mask.specs.declared.Local.{Local}
+use Rattle.step.specs.Value.{localAttemptOf}
+use Rattle.step.specs.declared.LocalAttempt.{LocalAttempt}
+use Rattle.step.specs.declared.LocalAttempt.the-variants.{To, Lacks}
 use Rattle.theory.proofs.Refusals.{else-both, if-not-true}
 
 -- ---- an entry
@@ -44,15 +49,18 @@ module _ (t : List ℕ) (i : ℕ) (plan : List ℕ) where
   starts s e = record { most = omega arith; rest = rw e }
 
   module _ (s k : ℕ) (r : Played t i plan s k) where
-    module _ (h : k < length plan) (b : Bool) (q : b ≡ system t .able (getD plan k 0) s) where
-      pub breaks-there : not b ≡ true → breaks k ≡ soloFrom (system t) i 0 (initial t) plan
+    module _ (h : k < length plan) (n : LocalAttempt) (is : localAttemptOf n ≡ system t .act (getD plan k 0) s) where
+      pub breaks-there : n ≡ Lacks → breaks k ≡ soloFrom (system t) i 0 (initial t) plan
       unfolding soloFrom
-      breaks-there h₁ = sym (r .rest ∙ rw (drop-cons plan k 0 h, ← q, not-true b h₁))
+      breaks-there e =
+          let q : lacks ≡ system t .act (getD plan k 0) s = sym (ap localAttemptOf e) ∙ is in
+          sym (r .rest ∙ rw (drop-cons plan k 0 h, ← q))
 
-      pub goes-on : not b ≡ false → (n : ℕ) → n ≡ system t .result (getD plan k 0) s → Played t i plan n (k + 1)
+      pub goes-on : (x : Local) → n ≡ To x → Played t i plan (localNumber x) (k + 1)
       unfolding soloFrom
-      goes-on h₁ n q₁ =
-          record { most = omega arith; rest = r .rest ∙ rw (drop-cons plan k 0 h, ← q, not-false b h₁, ← q₁, add-one k) }
+      goes-on x e =
+          let q : goes (localNumber x) ≡ system t .act (getD plan k 0) s = sym (ap localAttemptOf e) ∙ is in
+          record { most = omega arith; rest = r .rest ∙ rw (drop-cons plan k 0 h, ← q, add-one k) }
 
     module _ (h : length plan ≤ k) (b : Bool) (q : b ≡ system t .goal i s) where
       pub stops-short : not b ≡ true → short ≡ soloFrom (system t) i 0 (initial t) plan

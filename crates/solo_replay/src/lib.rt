@@ -8,6 +8,7 @@ ghost use Rattle.semantics.specs.Solo.{entry, soloFrom, soloReplay};
 ghost use Rattle.mask.specs.Number.{localNumber};
 ghost use Rattle.solo_replay.specs.Value.{soloOf, replayedOf};
 use mask::Local;
+use step::LocalAttempt;
 
 // What a plan comes to: it solves; its step at an index lacks a precondition; or all steps are done and the goal is missing.
 pub enum Solo {
@@ -83,10 +84,11 @@ pub fn replay(t: &[u64], i: usize, plan: &[u16]) -> Solo
     let mut k = 0;
     while k < plan.len() {
         let a = plan[k] as usize;
-        if !step::local_able(t, a, s) {
-            return Solo::Breaks(k);
+        let r = step::local_act(t, a, s);
+        match r {
+            LocalAttempt::To(x) => s = x,
+            LocalAttempt::Lacks => return Solo::Breaks(k),
         }
-        s = step::local_result(t, a, s);
         k += 1;
     }
     if !done(t, i, s) {

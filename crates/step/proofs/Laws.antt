@@ -1,5 +1,5 @@
 -- The ways out of the routine and of the operation.
-use mathlib.Core.Path.{_≡_, refl}
+use mathlib.Core.Path.{_≡_, refl, sym, ap, _∙_}
 use mathlib.Core.Bool.{Bool, true, false, not}
 use mathlib.Core.List.{List}
 use Prim.Native.Nat.{ℕ, zero, suc, _≤_, _<_}
@@ -9,8 +9,17 @@ use Rattle.semantics.specs.Base.{refused, gives}
 use Rattle.semantics.specs.Mask.{within, after, below}
 use Rattle.semantics.specs.Task as Task
 use Rattle.semantics.specs.Task.{check, facts, actions}
-use Rattle.semantics.specs.System.{system, waits}
+use Rattle.semantics.specs.System as Paper
+use Rattle.semantics.specs.System.{goes, lacks, result, system, waits}
 use Rattle.semantics.specs.Step.{Decision, go, wait, collision, routine, step}
+use Rattle.mask.specs.Number.{number, localNumber}
+use Rattle.mask.specs.declared.Mask.{Mask}
+use Rattle.mask.specs.declared.Local.{Local}
+use Rattle.step.specs.Value.{attemptOf, localAttemptOf}
+use Rattle.step.specs.declared.Attempt.{Attempt}
+use Rattle.step.specs.declared.Attempt.the-variants as Masked
+use Rattle.step.specs.declared.LocalAttempt.{LocalAttempt}
+use Rattle.step.specs.declared.LocalAttempt.the-variants.{To, Lacks}
 
 -- ---- actions on a mask
 
@@ -18,11 +27,29 @@ module _ (t : List ℕ) (a m x : ℕ) where
   pub waits-is : x ≡ Task.wait t a → (b : Bool) → b ≡ within x m → not b ≡ waits t a m
   waits-is e b k = rw (← e, ← k)
 
-  pub able-is : x ≡ Task.pre t a → (b : Bool) → b ≡ within x m → b ≡ system t .able a m
-  able-is e b k = rw (← e) k
+  module _ (e : x ≡ Task.pre t a) (b : Bool) (k : b ≡ within x m) where
+    pub act-lacks : not b ≡ true → lacks ≡ system t .act a m
+    act-lacks h = rw (← e, ← k, not-true b h)
 
-  pub result-is : x ≡ Task.add t a → (d : ℕ) → d ≡ Task.del t a → (n : ℕ) → n ≡ after m x d → n ≡ system t .result a m
-  result-is e d e₁ n k = rw (← e, ← e₁) k
+    pub act-goes : not b ≡ false → (y z n : ℕ) → y ≡ Task.add t a → z ≡ Task.del t a → n ≡ after m y z
+        → goes n ≡ system t .act a m
+    act-goes h y z n e₁ e₂ k₁ = rw (← e, ← k, not-false b h, ← e₁, ← e₂, ← k₁)
+
+-- ---- an attempt on a local copy
+
+module _ (A : Paper.Attempt ℕ) (r : Attempt) (is : attemptOf r ≡ A) where
+  pub local-goes : (m : Mask) → r ≡ Masked.To m → goes (number m) ≡ A
+  local-goes m e = sym (ap attemptOf e) ∙ is
+
+  pub local-lacks : r ≡ Masked.Lacks → lacks ≡ A
+  local-lacks e = sym (ap attemptOf e) ∙ is
+
+module _ (t : List ℕ) (a s : ℕ) (r : LocalAttempt) (is : localAttemptOf r ≡ system t .act a s) where
+  pub result-goes : (x : Local) → r ≡ To x → localNumber x ≡ result (system t) a s
+  result-goes x e = let k : goes (localNumber x) ≡ system t .act a s = sym (ap localAttemptOf e) ∙ is in rw (← k)
+
+  pub result-stays : r ≡ Lacks → s ≡ result (system t) a s
+  result-stays e = let k : lacks ≡ system t .act a s = sym (ap localAttemptOf e) ∙ is in rw (← k)
 
 -- ---- the routine
 
@@ -31,14 +58,14 @@ module _ (t : List ℕ) (a g : ℕ) (b : Bool) (k : b ≡ waits t a g) where
   unfolding routine
   waits-there h = rw (← k, h)
 
-  module _ (h : b ≡ false) (c : Bool) (k₁ : c ≡ system t .able a g) where
-    pub collides-there : not c ≡ true → collision ≡ routine (system t) (waits t) a g
+  module _ (h : b ≡ false) (r : Attempt) (is : attemptOf r ≡ system t .act a g) where
+    pub goes-there : (m : Mask) → r ≡ Masked.To m → go (number m) ≡ routine (system t) (waits t) a g
     unfolding routine
-    collides-there h₁ = rw (← k, h, ← k₁, not-true c h₁)
+    goes-there m e = let q : goes (number m) ≡ system t .act a g = sym (ap attemptOf e) ∙ is in rw (← k, h, ← q)
 
-    pub goes-there : not c ≡ false → (n : ℕ) → n ≡ system t .result a g → go n ≡ routine (system t) (waits t) a g
+    pub collides-there : r ≡ Masked.Lacks → collision ≡ routine (system t) (waits t) a g
     unfolding routine
-    goes-there h₁ n k₂ = rw (← k, h, ← k₁, not-false c h₁, ← k₂)
+    collides-there e = let q : lacks ≡ system t .act a g = sym (ap attemptOf e) ∙ is in rw (← k, h, ← q)
 
 -- ---- the operation
 

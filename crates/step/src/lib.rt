@@ -2,13 +2,25 @@
 ghost use mathlib.Core.Path.{_≡_};
 ghost use Prim.Native.Nat.{_<_};
 ghost use Rattle.semantics.specs.Task.{check, actions};
-ghost use Rattle.semantics.specs.System.{system, waits};
+ghost use Rattle.semantics.specs.System.{result, system, waits};
 ghost use Rattle.semantics.specs.Step.{routine, step};
 ghost use Rattle.mask.specs.Number.{number, localNumber, sharedNumber};
-ghost use Rattle.step.specs.Value.{decisionOf, steppedOf};
+ghost use Rattle.step.specs.Value.{attemptOf, localAttemptOf, decisionOf, steppedOf};
 use mask::Local;
 use mask::Mask;
 use mask::Shared;
+
+// What an action makes of a mask: a new one, or nothing, where the mask lacks preconditions.
+enum Attempt {
+    To(Mask),
+    Lacks,
+}
+
+// The same of a local copy.
+pub enum LocalAttempt {
+    To(Local),
+    Lacks,
+}
 
 // What a pending action answers at a shared copy: go with the new one, wait, or collision.
 pub enum Decision {
@@ -34,42 +46,45 @@ fn waits(t: &[u64], a: usize, m: Mask) -> bool
     !mask::within(task::wait(t, a), m)
 }
 
-// All preconditions of action a stand in m.
-fn able(t: &[u64], a: usize, m: Mask) -> bool
+// What action a makes of m.
+fn act(t: &[u64], a: usize, m: Mask) -> Attempt
     requires { ⌜ check (now t) ≡ 0 ⌝ }
     requires { ⌜ a < actions (now t) ⌝ }
-    ensures { λ r. ⌜ r ≡ system (now (t .entry)) .able a (number m) ⌝ }
+    ensures { λ r. ⌜ attemptOf r ≡ system (now (t .entry)) .act a (number m) ⌝ }
 {
-    mask::within(task::pre(t, a), m)
-}
-
-// The mask after action a.
-fn result(t: &[u64], a: usize, m: Mask) -> Mask
-    requires { ⌜ check (now t) ≡ 0 ⌝ }
-    requires { ⌜ a < actions (now t) ⌝ }
-    ensures { λ r. ⌜ number r ≡ system (now (t .entry)) .result a (number m) ⌝ }
-{
-    mask::after(m, task::add(t, a), task::del(t, a))
+    if !mask::within(task::pre(t, a), m) {
+        return Attempt::Lacks;
+    }
+    let next = mask::after(m, task::add(t, a), task::del(t, a));
+    Attempt::To(next)
 }
 
 // ---- on a member's local copy
 
-// All preconditions of action a stand in the local copy s.
-pub fn local_able(t: &[u64], a: usize, s: Local) -> bool
+// What action a makes of the local copy s.
+pub fn local_act(t: &[u64], a: usize, s: Local) -> LocalAttempt
     requires { ⌜ check (now t) ≡ 0 ⌝ }
     requires { ⌜ a < actions (now t) ⌝ }
-    ensures { λ r. ⌜ r ≡ system (now (t .entry)) .able a (localNumber s) ⌝ }
+    ensures { λ r. ⌜ localAttemptOf r ≡ system (now (t .entry)) .act a (localNumber s) ⌝ }
 {
-    able(t, a, s.0)
+    let r = act(t, a, s.0);
+    match r {
+        Attempt::To(m) => LocalAttempt::To(Local(m)),
+        Attempt::Lacks => LocalAttempt::Lacks,
+    }
 }
 
-// The local copy after action a.
+// The local copy after action a; s itself where it lacks preconditions.
 pub fn local_result(t: &[u64], a: usize, s: Local) -> Local
     requires { ⌜ check (now t) ≡ 0 ⌝ }
     requires { ⌜ a < actions (now t) ⌝ }
-    ensures { λ r. ⌜ localNumber r ≡ system (now (t .entry)) .result a (localNumber s) ⌝ }
+    ensures { λ r. ⌜ localNumber r ≡ result (system (now (t .entry))) a (localNumber s) ⌝ }
 {
-    Local(result(t, a, s.0))
+    let r = local_act(t, a, s);
+    match r {
+        LocalAttempt::To(x) => x,
+        LocalAttempt::Lacks => s,
+    }
 }
 
 // ---- on the shared copy
@@ -83,11 +98,11 @@ pub fn decide(t: &[u64], a: usize, g: Shared) -> Decision
     if waits(t, a, g.0) {
         return Decision::Wait;
     }
-    if !able(t, a, g.0) {
-        return Decision::Collision;
+    let r = act(t, a, g.0);
+    match r {
+        Attempt::To(m) => Decision::Go(Shared(m)),
+        Attempt::Lacks => Decision::Collision,
     }
-    let next = result(t, a, g.0);
-    Decision::Go(Shared(next))
 }
 
 // The operation, for every input.

@@ -15,6 +15,7 @@ use Rattle.semantics.specs.Task.{rowWidth, word, facts, members, actions, initi
 use Rattle.semantics.specs.System.{Lawful, system, waits}
 use Rattle.theory.proofs.Lists.{lt-or-ge, not-true-false, and-elim}
 use Rattle.theory.proofs.Refusals.{else-both, if-not-true, upTo-refusal}
+use Rattle.theory.proofs.Attempts.{able-within}
 use Rattle.theory.proofs.Masks.{within-sub, sub-within}
 
 -- the masks of an action stand below F, and what it waits for is a precondition
@@ -114,7 +115,7 @@ wait-lacks t h a s w =
 pub accepted-lawful : (t : List ℕ) → check t ≡ 0 → Lawful (system t) (waits t)
 accepted-lawful t h =
     record {
-      wait-lacks = wait-lacks t h;
+      wait-lacks = λ a s w. able-within t a s ∙ wait-lacks t h a s w;
       owned = accepted t h .owner-member;
       same-eq = eqb-true;
       same-refl = λ x. eq-eqb x x refl;

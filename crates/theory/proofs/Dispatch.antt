@@ -21,6 +21,7 @@ use Rattle.semantics.specs.Run.{pastEnd, pickOn, playOn}
 use Rattle.semantics.specs.Demands.{pickEach, InSlices, madeRun, PickedRuns, Dispatcher}
 use Rattle.theory.proofs.Lists.{lt-or-ge, any-false, false-any, upTo-mem, mem-upTo, upTo-length, getD-upTo}
 use Rattle.theory.proofs.Refusals.{refused-gives}
+use Rattle.theory.proofs.Attempts.{result-after}
 use Rattle.theory.proofs.Masks.{after-below}
 use Rattle.theory.proofs.Accepted.{accepted}
 use Rattle.theory.proofs.Plans.{endsFrom, laid-plans, laid-accepted, checked-task, rest-length}
@@ -111,8 +112,8 @@ module _ (t plans ends : List ℕ) where
         at (Picks.waits h c e w) = f
         at (goes {a = a} {p = p} h c e w b) =
             let s = accepted t (checked-task t plans ends ok) .action-fits a in
-            let b = after-below (facts t) (r .shared) (add t a) (del t a) (f .shared-fits) (s .add-below) in
-            fits _ b (moved a p h e)
+            let fit = after-below (facts t) (r .shared) (add t a) (del t a) (f .shared-fits) (s .add-below) in
+            rw (result-after t a (r .shared) b) (fits _ fit (moved a p h e))
         at (collides h c e w b) = fits _ (f .shared-fits) (λ i l. place-fits r f i l)
 
     -- picks done by the public pick are the model's picks, and leave a run that fits

@@ -1,5 +1,6 @@
 pub mod Accepted
 pub mod Agrees
+pub mod Attempts
 pub mod Complete
 pub mod Demand2
 pub mod Demand3

@@ -8,25 +8,26 @@ use lib.Seq.{getD-set-same, getD-set-other, drop-drop}
 use lib.Dec.{ltb}
 use borrow.Author.Tests.{ltb-true, ltb-false}
 use Rattle.semantics.specs.Base.{_if_, _else_, Answer, refused, unless}
-use Rattle.semantics.specs.System.{System, Waits}
+use Rattle.semantics.specs.System.{System, Waits, tried, able, result}
 use Rattle.semantics.specs.Step.{Decision, routine}
 use Rattle.semantics.specs.Run.{Run, rest, advance, pickStep, pick}
+use Rattle.theory.proofs.Attempts.{able-goes, unable-lacks}
 
 -- the routine's answers
 pub data Decided (S : System) (W : Waits S) (a : ℕ) (g : S .State) : Decision (S .State) → Type 0 where
   waits : W a g ≡ true → Decided S W a g Decision.wait
-  goes : W a g ≡ false → S .able a g ≡ true → Decided S W a g (Decision.go (S .result a g))
-  collides : W a g ≡ false → S .able a g ≡ false → Decided S W a g Decision.collision
+  goes : W a g ≡ false → able S a g ≡ true → Decided S W a g (Decision.go (result S a g))
+  collides : W a g ≡ false → able S a g ≡ false → Decided S W a g Decision.collision
 
 pub decided : (S : System) (W : Waits S) (a : ℕ) (g : S .State) → Decided S W a g (routine S W a g)
 unfolding routine
-decided S W a g = at (W a g) refl (S .able a g) refl
+decided S W a g = at (W a g) refl (able S a g) refl
   where
-    at : (w : Bool) → W a g ≡ w → (b : Bool) → S .able a g ≡ b
-        → Decided S W a g (cond w Decision.wait (cond b (Decision.go (S .result a g)) Decision.collision))
+    at : (w : Bool) → W a g ≡ w → (b : Bool) → able S a g ≡ b
+        → Decided S W a g (cond w Decision.wait (tried (S .act a g) Decision.go Decision.collision))
     at true e b f = Decided.waits e
-    at false e true f = Decided.goes e f
-    at false e false f = Decided.collides e f
+    at false e true f = rw (able-goes S a g f) (Decided.goes e f)
+    at false e false f = rw (unable-lacks S a g f) (Decided.collides e f)
 
 module _ (S : System) (W : Waits S) (plans : List (List ℕ)) where
   -- a pick's answers
@@ -37,9 +38,9 @@ module _ (S : System) (W : Waits S) (plans : List (List ℕ)) where
     waits : {a : ℕ} {p : List ℕ} → j < S .members → r .collided ≡ false → rest plans r j ≡ a ∷ p → W a (r .shared) ≡ true
         → Picked r j (refused 13)
     goes : {a : ℕ} {p : List ℕ} → j < S .members → r .collided ≡ false → rest plans r j ≡ a ∷ p → W a (r .shared) ≡ false
-        → S .able a (r .shared) ≡ true → Picked r j (advance r j (Decision.go (S .result a (r .shared))))
+        → able S a (r .shared) ≡ true → Picked r j (advance r j (Decision.go (result S a (r .shared))))
     collides : {a : ℕ} {p : List ℕ} → j < S .members → r .collided ≡ false → rest plans r j ≡ a ∷ p → W a (r .shared) ≡ false
-        → S .able a (r .shared) ≡ false → Picked r j (advance r j Decision.collision)
+        → able S a (r .shared) ≡ false → Picked r j (advance r j Decision.collision)
 
   pub picked : (r : Run (S .State)) (j : ℕ) → Picked r j (pick S W plans r j)
   unfolding pick pickStep

@@ -13,6 +13,7 @@ use lib.Seq.{take-append-seam}
 use lib.Dec.{eqb}
 use borrow.Author.Tests.{lt-ltb, le-ltb}
 use Rattle.semantics.specs.Base.{_if_, refused, gives, padded}
+use Rattle.semantics.specs.Mask.{after}
 use Rattle.semantics.specs.Task as Task
 use Rattle.semantics.specs.Task.{check}
 use Rattle.semantics.specs.System.{Lawful, system, waits, Live}
@@ -22,12 +23,13 @@ use Rattle.semantics.specs.Model.{FactSet, _⊆_, apply, Executes, Solution, no
 use Rattle.semantics.specs.Demands.{factsOf, setting, Reachable, Completable, Solvable, Distinct, Lists, Exceed, Breadth, SearchedRows, SoloSearchAgrees}
 use Rattle.theory.proofs.Lists.{lt-or-ge, mem-getD, test-ext}
 use Rattle.theory.proofs.Refusals.{else-both, refused-gives, gives-inj}
-use Rattle.theory.proofs.Masks.{within-sub, sub-within}
+use Rattle.theory.proofs.Masks.{sub-within}
 use Rattle.theory.proofs.Accepted.{accepted-lawful}
 use Rattle.theory.proofs.Agrees.Step.{facts-after, same-facts}
 use Rattle.theory.proofs.Agrees.Solo.{leads-iff}
 use Rattle.theory.proofs.Listing.{nodup-index, index-nodup, pigeonhole, listing-breadth}
-use Rattle.theory.proofs.Live.{Steps, soloNext-steps, steps-soloNext, copies-nodup, copies-reachable, reachable-copies, live-sound, copies-live}
+use Rattle.theory.proofs.Attempts.{result-after, within-goes, able-sub}
+use Rattle.theory.proofs.Live.{Steps, goes-steps, soloNext-steps, steps-soloNext, copies-nodup, copies-reachable, reachable-copies, live-sound, copies-live}
 
 -- ---- local copies against states of the model
 
@@ -44,10 +46,11 @@ module _ (t : List ℕ) (i : ℕ) where
       let h = reach-reachable r in
       let c = soloNext-steps (system t) i x s m in
       let a = c .action in
-      let e : apply (setting t) a (factsOf x) ≡ factsOf s = sym (facts-after t a x) ∙ ap factsOf (sym (c .led)) in (
+      let led : s ≡ after x (Task.add t a) (Task.del t a) = c .led ∙ result-after t a x (c .able) in
+      let e : apply (setting t) a (factsOf x) ≡ factsOf s = sym (facts-after t a x) ∙ ap factsOf (sym led) in (
         h .0 ++ (a ∷ []),
         subst (Executes (setting t) i (setting t .init) (h .0 ++ (a ∷ []))) e
-            (executes-snoc a (h .1) (c .own) (within-sub (Task.pre t a) x (c .able))),
+            (executes-snoc a (h .1) (c .own) (able-sub t a x (c .able))),
       )
 
   -- an execution from a copy that can be reached ends in one
@@ -55,9 +58,9 @@ module _ (t : List ℕ) (i : ℕ) where
       → (y : ℕ) × (v ≡ factsOf y) × Reach (soloNext (system t) i) (system t .init) y
   executes-reach none x e r = (x, e, r)
   executes-reach (then {a = a} o p q) x e r =
-      let y = system t .result a x in
-      let c : Steps (system t) i x y =
-      record { action = a; own = o; able = sub-within (Task.pre t a) x (subst (λ (w : FactSet). setting t .pre a ⊆ w) e p); led = refl } in
+      let y = after x (Task.add t a) (Task.del t a) in
+      let holds = sub-within (Task.pre t a) x (subst (λ (w : FactSet). setting t .pre a ⊆ w) e p) in
+      let c : Steps (system t) i x y = goes-steps (system t) i x y a o (within-goes t a x holds) in
       executes-reach q y (ap (apply (setting t) a) e ∙ sym (facts-after t a x)) (step r (steps-soloNext (system t) i x y c))
 
   pub reachable-iff : (s : ℕ) → Reach (soloNext (system t) i) (system t .init) s ↔ Reachable t i s

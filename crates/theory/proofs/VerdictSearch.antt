@@ -11,7 +11,7 @@ use lib.Dec.{eqb}
 use Rattle.semantics.specs.Base.{Answer, refused, gives}
 use Rattle.semantics.specs.Task as Task
 use Rattle.semantics.specs.Task.{check, members}
-use Rattle.semantics.specs.System.{Lawful, system, waits, Live}
+use Rattle.semantics.specs.System.{able, result, Lawful, system, waits, Live}
 use Rattle.semantics.specs.Listing.{Reach, here, step}
 use Rattle.semantics.specs.Solo.{copies}
 use Rattle.semantics.specs.Model.{_⊆_}
@@ -19,7 +19,7 @@ use Rattle.semantics.specs.Verdict.{Room, localRows, configurationRows, tooShor
 use Rattle.semantics.specs.Demands.{factsOf, setting, Reachable, Completable, Solvable, Lists, Exceed, Configured, at-start, by-move, ListedRows, CopiesExceed, VerdictSearch, Searches}
 use Rattle.theory.proofs.Lists.{lt-or-ge, true-not-false, not-false-true, apart}
 use Rattle.theory.proofs.Refusals.{refused-gives, gives-inj}
-use Rattle.theory.proofs.Masks.{within-sub, sub-within}
+use Rattle.theory.proofs.Attempts.{able-sub, sub-able}
 use Rattle.theory.proofs.Accepted.{accepted-lawful}
 use Rattle.theory.proofs.Agrees.Solo.{leads-solution, solution-leads}
 use Rattle.theory.proofs.SoloSearch.{reachable-iff, completable-iff}
@@ -93,14 +93,14 @@ module _ (t : List ℕ) (room : Room) (ok : check t ≡ 0) (long : tooShort t ro
         let j = Task.owner t a in
         let s = localCopy (system t) c j in
         let local′ = subst (λ (k : ℕ). setting t .pre a ⊆ factsOf (localCopy (system t) c k)) (sym o) local in
-        let goes′ = subst (λ (k : ℕ). Completable t k (system t .result a (localCopy (system t) c k))) (sym o) goes in
-        let able = sub-within (Task.pre t a) s local′ in
+        let goes′ = subst (λ (k : ℕ). Completable t k (result (system t) a (localCopy (system t) c k))) (sym o) goes in
+        let able = sub-able t a s local′ in
         let good = good-reach (system t) live (lawful .owned) reach .locals j h in
-        let lives = test .complete j (system t .result a s) h (step good (solo-step (system t) live j a s (l, refl) able))
-        (completable-iff t j (system t .result a s) .1 goes′) in
+        let lives = test .complete j (result (system t) a s) h (step good (solo-step (system t) live j a s (l, refl) able))
+        (completable-iff t j (result (system t) a s) .1 goes′) in
         step reach
         (move-moves (system t) live c a l (able-ready (system t) live c a able lives)
-        (sub-within (Task.pre t a) (sharedCopy (system t) c) shared))
+        (sub-able t a (sharedCopy (system t) c) shared))
 
     reach-configured : {c : List ℕ} → Reach (moves (system t) live) (startRow (system t)) c → Configured t c
     reach-configured (here e) = subst (Configured t) (sym e) at-start
@@ -111,10 +111,10 @@ module _ (t : List ℕ) (room : Room) (ok : check t ≡ 0) (long : tooShort t ro
         let s = localCopy (system t) c j in
         subst (Configured t) (sym (v .leads))
         (by-move {i = j} (reach-configured r) (v .listed, refl)
-        (within-sub (Task.pre t a) s (ready-able (system t) live c a (v .isReady)))
-        (within-sub (Task.pre t a) (sharedCopy (system t) c) (v .isAble))
-        (completable-iff t j (system t .result a s) .0
-        (test .sound j (system t .result a s) (lawful .owned a (v .listed)) (ready-live (system t) live c a (v .isReady)))))
+        (able-sub t a s (ready-able (system t) live c a (v .isReady)))
+        (able-sub t a (sharedCopy (system t) c) (v .isAble))
+        (completable-iff t j (result (system t) a s) .0
+        (test .sound j (result (system t) a s) (lawful .owned a (v .listed)) (ready-live (system t) live c a (v .isReady)))))
 
     rows-configured : (c : List ℕ) → List·Memᴰ c rows → Configured t c
     rows-configured c m = reach-configured (listed-reach (system t) (waits t) lawful K C c m)

@@ -39,14 +39,17 @@ inside c =
     let s = c .before .before .before .before .before in
     entry-action (s .args .t .now) (s .args .i) _ (accepted-at (entry (s .args .t .now) (s .args .i)) (s .args .plan .now) (s .pre .1 .1) (c .before .loop .k) (omega arith))
 
-local-able-requires : tie.Need-local-able-requires Inv-loop μ-loop
-local-able-requires c κs = (search needs, inside (c .before))
+local-act-requires : tie.Need-local-act-requires Inv-loop μ-loop
+local-act-requires c κs = (search needs, inside (c .before))
+
+enum-known-r : tie.Need-enum-known-r Inv-loop μ-loop
+enum-known-r c = search needs
+
+enum-told : tie.Need-enum-told Inv-loop μ-loop
+enum-told c = search needs
 
 returns : tie.Need-returns Inv-loop μ-loop
 returns c = search breaks-there
-
-local-result-requires : tie.Need-local-result-requires Inv-loop μ-loop
-local-result-requires c κs = (search needs, inside (c .before .before .before))
 
 add-k : tie.Need-add-k Inv-loop μ-loop
 add-k c = search needs
@@ -77,9 +80,10 @@ replay-spec =
     mul-a
     shared-slice-read-a
     cast-a
-    local-able-requires
+    local-act-requires
+    enum-known-r
+    enum-told
     returns
-    local-result-requires
     add-k
     loop-less
     loop-again

@@ -9,19 +9,19 @@ use lib.Dec.{eqb, ltb}
 use lib.ListN.{length, getD, length-set}
 use borrow.Author.Tests.{eqb-true, eqb-false, ltb-false, le-ltb}
 use Rattle.semantics.specs.Base.{upTo, anyOf, _if_, _else_, Answer, refused, gives}
-use Rattle.semantics.specs.Mask.{within, after, below}
+use Rattle.semantics.specs.Mask.{below}
 use Rattle.semantics.specs.Task as Task
-use Rattle.semantics.specs.System.{system, waits}
+use Rattle.semantics.specs.System.{able, result, system, waits}
 use Rattle.semantics.specs.Run.{Run, mostMembers, rest, pick, planOf, plansOf, plansRefusal, pickOn}
 use Rattle.semantics.specs.Model.{World, leaving, apply, Acts, acts, Collides, Waiting}
 use Rattle.semantics.specs.Demands.{factsOf, setting, worldAt, worldIn, stepped, closed, Stays, RunFits, PickAgrees}
 use Rattle.theory.proofs.Lists.{true-not-false, apart, any-false, false-any, upTo-mem, mem-upTo}
 use Rattle.theory.proofs.Refusals.{else-both, if-false, if-not-true, refused-gives, gives-inj, unless-gives}
 use Rattle.theory.proofs.Accepted.{accepted}
-use Rattle.theory.proofs.Masks.{within-sub}
+use Rattle.theory.proofs.Attempts.{able-sub, unable-not-sub}
 use Rattle.theory.proofs.Picks as Pick
 use Rattle.theory.proofs.Picks.{gone, rest-picked, rest-others}
-use Rattle.theory.proofs.Agrees.Step.{facts-after, same-facts, not-within, asks-within, waits-lack}
+use Rattle.theory.proofs.Agrees.Step.{facts-result, same-facts, asks-within, waits-lack}
 use Rattle.theory.proofs.Agrees.Worlds.{moves-agent, moves-stays, acts-collides, acts-unique}
 
 -- a run that goes on: it has all its places and has not collided
@@ -44,14 +44,14 @@ module _ (t : List ℕ) (few : Task.members t ≤ mostMembers) (plans : List (Li
       at true q = rw (q, eqb-true m j q) (rest-picked plans r j g (omega (arith, going .wide)) e)
       at false q = rw q (rest-others plans r j g m (eqb-false m j q))
 
-  gone-world : j < Task.members t → (a : ℕ) (π : List ℕ) → rest plans r j ≡ a ∷ π
+  gone-world : j < Task.members t → (a : ℕ) (π : List ℕ) → rest plans r j ≡ a ∷ π → able (system t) a (r .shared) ≡ true
       → _≡_ {A = World (setting t)}
-      (worldAt t plans (gone plans r j (after (r .shared) (Task.add t a) (Task.del t a))))
+      (worldAt t plans (gone plans r j (result (system t) a (r .shared))))
       (record { state = apply (setting t) a (factsOf (r .shared)); left = leaving (setting t) j π (rest plans r) })
-  gone-world member a π e =
-      let g = after (r .shared) (Task.add t a) (Task.del t a) in
-      let left = fun-ext (gone-rest member g e) in
-      λ i. record { state = facts-after t a (r .shared) i; left = left i }
+  gone-world member a π e b =
+      let left = fun-ext (gone-rest member (result (system t) a (r .shared)) e) in
+      let state = facts-result t a (r .shared) b in
+      λ i. record { state = state i; left = left i }
 
   asked : (x : Answer (Run ℕ)) → Pick.Picked (system t) (waits t) plans r j x → Picked t plans r j x
   asked x (Pick.Picked.nobody h) = impossible (λ l. absurd (omega arith))
@@ -61,10 +61,10 @@ module _ (t : List ℕ) (few : Task.members t ≤ mostMembers) (plans : List (Li
       impossible (λ l. inl (Waiting.waiting left (waits-lack t a (r .shared) w)))
   asked x (Pick.Picked.goes {a = a} {p = π} h e left w b) =
       goes (record { wide = length-set (r .places) j (getD (r .places) j 0 + 1) ∙ going .wide; uncollided = refl })
-      (subst (Acts (setting t) (worldAt t plans r) j) (sym (gone-world h a π left)) (acts h left (asks-within t a (r .shared) w) (within-sub (Task.pre t a) (r .shared) b)))
+      (subst (Acts (setting t) (worldAt t plans r) j) (sym (gone-world h a π left b)) (acts h left (asks-within t a (r .shared) w) (able-sub t a (r .shared) b)))
   asked x (Pick.Picked.collides {a = a} h e left w b) =
       collides refl refl
-      (Collides.collides h left (asks-within t a (r .shared) w) (not-within (Task.pre t a) (r .shared) b))
+      (Collides.collides h left (asks-within t a (r .shared) w) (unable-not-sub t a (r .shared) b))
 
 pub picked : (t : List ℕ) → Task.members t ≤ mostMembers → (plans : List (List ℕ)) (r : Run ℕ) → Going r
     → (j : ℕ) → Picked t plans r j (pick (system t) (waits t) plans r j)
@@ -157,11 +157,11 @@ module _ (t plans ends : List ℕ) (r : Run ℕ) (i : ℕ) where
   module _ (few : Task.members t ≤ mostMembers) (wide : length (r .places) ≡ mostMembers) where
     -- the world after the step is the one that the scheduler's choice makes
     its-acts : (a : ℕ) (π : List ℕ) → i < Task.members t → r .collided ≡ false → rest P r i ≡ a ∷ π → waits t a (r .shared) ≡ false
-        → within (Task.pre t a) (r .shared) ≡ true
-        → Acts (setting t) W i (worldIn t plans ends (stepped r i (after (r .shared) (Task.add t a) (Task.del t a))))
+        → able (system t) a (r .shared) ≡ true
+        → Acts (setting t) W i (worldIn t plans ends (stepped r i (result (system t) a (r .shared))))
     its-acts a π h c left w b =
-        subst (Acts (setting t) W i) (sym (gone-world t few P r (record { wide = wide; uncollided = c }) i h a π left))
-        (acts h left (asks-within t a (r .shared) w) (within-sub (Task.pre t a) (r .shared) b))
+        subst (Acts (setting t) W i) (sym (gone-world t few P r (record { wide = wide; uncollided = c }) i h a π left b))
+        (acts h left (asks-within t a (r .shared) w) (able-sub t a (r .shared) b))
 
     told : (x : Answer (Run ℕ)) → pickOn t plans ends r i ≡ x → Pick.Picked (system t) (waits t) P r i x → PickAgrees t plans ends r i
     told x e (Pick.Picked.nobody h) =
@@ -181,9 +181,9 @@ module _ (t plans ends : List ℕ) (r : Run ℕ) (i : ℕ) where
         }
     told x e (Pick.Picked.over h c left) = stays-told e h (inr left)
     told x e (Pick.Picked.waits {a = a} h c left w) = stays-told e h (inl (Waiting.waiting left (waits-lack t a (r .shared) w)))
-    told x e (Pick.Picked.goes {a = a} {p = π} h c left w b) = goes-told (after (r .shared) (Task.add t a) (Task.del t a)) e h c (its-acts a π h c left w b)
+    told x e (Pick.Picked.goes {a = a} {p = π} h c left w b) = goes-told (result (system t) a (r .shared)) e h c (its-acts a π h c left w b)
     told x e (Pick.Picked.collides {a = a} h c left w b) =
-        collides-told e h c (Collides.collides h left (asks-within t a (r .shared) w) (not-within (Task.pre t a) (r .shared) b))
+        collides-told e h c (Collides.collides h left (asks-within t a (r .shared) w) (unable-not-sub t a (r .shared) b))
 
 plans-accepted : (t plans ends : List ℕ) → plansRefusal t plans ends ≡ 0 → Task.check t ≡ 0
 unfolding plansRefusal

@@ -12,10 +12,11 @@ use borrow.Author.Tests.{ltb-true, eqb-true}
 use Rattle.semantics.specs.Base.{_if_, gives, unless, firstRefusal}
 use Rattle.semantics.specs.Mask.{within, after}
 use Rattle.semantics.specs.Task as Task
-use Rattle.semantics.specs.System.{system, Own, Leads, done, next, Solves}
+use Rattle.semantics.specs.System.{goes, lacks, tried, system, Own, Leads, done, next, Solves}
 use Rattle.semantics.specs.Solo.{Solo, solves, breaks, short, soloFrom, entry, soloRefusal, soloReplay}
 use Rattle.semantics.specs.Model.{FactSet, _⊆_, Setting, apply, Executes, none, then, Solution}
 use Rattle.semantics.specs.Demands.{factsOf, setting, SoloReplayAgrees}
+use Rattle.theory.proofs.Attempts.{goes-able, goes-result, result-after, within-goes, able-sub}
 use Rattle.theory.proofs.Lists.{apart}
 use Rattle.theory.proofs.Refusals.{else-both, if-not-true, mem-refusal}
 use Rattle.theory.proofs.Masks.{within-sub, sub-within}
@@ -52,16 +53,19 @@ executes-rest t i s a p {s′} e =
 
 pub leads-completes : (t : List ℕ) (i s : ℕ) (p : List ℕ) → Leads (system t) i s p → Completes t i s p
 leads-completes t i s [] (done g) = (factsOf s, none, within-sub (Task.goal t i) s g)
-leads-completes t i s (a ∷ p) (next own able l) =
-    let (s′, e, g) = leads-completes t i (after s (Task.add t a) (Task.del t a)) p l in
-    (s′, executes-then t i s a p own (within-sub (Task.pre t a) s able) e, g)
+leads-completes t i s (a ∷ p) (next {s′ = n} own act l) =
+    let able = goes-able (system t) a s act in
+    let led = sym (goes-result (system t) a s act) ∙ result-after t a s able in
+    let (s′, e, g) = leads-completes t i n p l in
+    let rest = subst (λ (x : ℕ). Executes (setting t) i (factsOf x) p s′) led e in
+    (s′, executes-then t i s a p own (able-sub t a s able) rest, g)
 
 pub completes-leads : (t : List ℕ) (i s : ℕ) (p : List ℕ) → Completes t i s p → Leads (system t) i s p
 completes-leads t i s [] (s′, e, g) =
     done (sub-within (Task.goal t i) s (subst (λ (A : FactSet). setting t .goal i ⊆ A) (sym (executes-nil (setting t) i e)) g))
 completes-leads t i s (a ∷ p) (s′, e, g) =
     let c = executes-cons (setting t) i e in
-    next (c .0) (sub-within (Task.pre t a) s (c .1))
+    next (c .0) (within-goes t a s (sub-within (Task.pre t a) s (c .1)))
     (completes-leads t i (after s (Task.add t a) (Task.del t a)) p (s′, executes-rest t i s a p e, g))
 
 pub leads-iff : (t : List ℕ) (i s : ℕ) (p : List ℕ) → Leads (system t) i s p ↔ Completes t i s p
@@ -104,8 +108,8 @@ Replayed t i k s p short = (A : FactSet) × Executes (setting t) i (factsOf s) p
 replayed-cons : (t : List ℕ) (i k s a : ℕ) (p : List ℕ) (r : Solo) → Own (system t) i a → setting t .pre a ⊆ factsOf s
     → Replayed t i (suc k) (after s (Task.add t a) (Task.del t a)) p r → Replayed t i k s (a ∷ p) r
 replayed-cons t i k s a p solves own able (A, e, g) = (A, executes-then t i s a p own able e, g)
-replayed-cons t i k s a p (breaks n) own able (j, q, (A, e, b, π, d, lacks)) =
-    (suc j, omega arith, (A, executes-then t i s a (take j p) own able e, b, π, d, lacks))
+replayed-cons t i k s a p (breaks n) own able (j, q, (A, e, b, π, d, misses)) =
+    (suc j, omega arith, (A, executes-then t i s a (take j p) own able e, b, π, d, misses))
 replayed-cons t i k s a p short own able (A, e, g) = (A, executes-then t i s a p own able e, g)
 
 -- what the answer says is so
@@ -122,7 +126,9 @@ soloFrom-replayed t i k s (a ∷ p) own =
   where
     go : (b : Bool) → within (Task.pre t a) s ≡ b
         → Replayed t i (suc k) (after s (Task.add t a) (Task.del t a)) p (soloFrom (system t) i (suc k) (after s (Task.add t a) (Task.del t a)) p)
-        → Replayed t i k s (a ∷ p) (cond b (soloFrom (system t) i (suc k) (after s (Task.add t a) (Task.del t a)) p) (breaks k))
+        → Replayed t i k s (a ∷ p)
+        (tried (cond b (goes (after s (Task.add t a) (Task.del t a))) lacks)
+        (λ next. soloFrom (system t) i (suc k) next p) (breaks k))
     go true e r =
         replayed-cons t i k s a p (soloFrom (system t) i (suc k) (after s (Task.add t a) (Task.del t a)) p)
         (own a (List·Memᴰ·head refl)) (within-sub (Task.pre t a) s e) r
@@ -139,7 +145,7 @@ not-at-nil t i s A B e n h = n (subst (λ (C : FactSet). B ⊆ C) (executes-nil 
 pub replayed-soloFrom : (t : List ℕ) (i k s : ℕ) (p : List ℕ) (r : Solo) → Replayed t i k s p r → soloFrom (system t) i k s p ≡ r
 unfolding soloFrom
 replayed-soloFrom t i k s [] solves (A, e, g) = rw (sub-within (Task.goal t i) s (at-nil t i s A (setting t .goal i) e g))
-replayed-soloFrom t i k s [] (breaks n) (j, q, (A, e, b, π, d, lacks)) = absurd (apart (cc (drop-nil {A = ℕ} j)))
+replayed-soloFrom t i k s [] (breaks n) (j, q, (A, e, b, π, d, misses)) = absurd (apart (cc (drop-nil {A = ℕ} j)))
 replayed-soloFrom t i k s [] short (A, e, g) = rw (not-sub (Task.goal t i) s (not-at-nil t i s A (setting t .goal i) e g))
 replayed-soloFrom t i k s (a ∷ p) solves (A, e, g) =
     rw (sub-within (Task.pre t a) s (executes-cons (setting t) i e .1))
@@ -147,15 +153,15 @@ replayed-soloFrom t i k s (a ∷ p) solves (A, e, g) =
 replayed-soloFrom t i k s (a ∷ p) short (A, e, g) =
     rw (sub-within (Task.pre t a) s (executes-cons (setting t) i e .1))
     (replayed-soloFrom t i (suc k) (after s (Task.add t a) (Task.del t a)) p short (A, executes-rest t i s a p e, g))
-replayed-soloFrom t i k s (a ∷ p) (breaks n) (zero, q, (A, e, b, π, d, lacks)) =
+replayed-soloFrom t i k s (a ∷ p) (breaks n) (zero, q, (A, e, b, π, d, misses)) =
     let n′ : k ≡ n = omega arith in
     let b′ : a ≡ b = cc in
-    let l = not-at-nil t i s A (setting t .pre b) e lacks in
+    let l = not-at-nil t i s A (setting t .pre b) e misses in
     rw (not-sub (Task.pre t a) s (rw b′ l)) (ap breaks n′)
-replayed-soloFrom t i k s (a ∷ p) (breaks n) (suc j, q, (A, e, b, π, d, lacks)) =
+replayed-soloFrom t i k s (a ∷ p) (breaks n) (suc j, q, (A, e, b, π, d, misses)) =
     rw (sub-within (Task.pre t a) s (executes-cons (setting t) i e .1))
     (replayed-soloFrom t i (suc k) (after s (Task.add t a) (Task.del t a)) p (breaks n)
-    (j, omega arith, (A, executes-rest t i s a (take j p) e, b, π, d, lacks)))
+    (j, omega arith, (A, executes-rest t i s a (take j p) e, b, π, d, misses)))
 
 pub solo-replay-agrees : (t : List ℕ) (i : ℕ) (plan : List ℕ) → soloRefusal t i plan ≡ 0 → SoloReplayAgrees t i plan
 unfolding soloReplay

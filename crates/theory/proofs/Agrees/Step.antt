@@ -7,10 +7,11 @@ use borrow.Author.Tests.{not-true, not-false}
 use Rattle.semantics.specs.Base.{gives, unless}
 use Rattle.semantics.specs.Mask.{within, after}
 use Rattle.semantics.specs.Task as Task
-use Rattle.semantics.specs.System.{system, waits}
+use Rattle.semantics.specs.System.{able, result, system, waits}
 use Rattle.semantics.specs.Step.{Decision, routine, stepRefusal, step}
 use Rattle.semantics.specs.Model.{FactSet, _⊆_, apply}
 use Rattle.semantics.specs.Demands.{factsOf, setting, StepAgrees}
+use Rattle.theory.proofs.Attempts.{result-after, able-sub, unable-not-sub}
 use Rattle.theory.proofs.Lists.{not-true-false, apart}
 use Rattle.theory.proofs.Picks as Pick
 use Rattle.theory.proofs.Masks.{within-sub, sub-within, after-has, mask-ext}
@@ -28,6 +29,10 @@ same-facts a b e = mask-ext a b (λ f. ap (λ (A : FactSet). A f) e)
 -- the facts after an action are those that the model gives
 pub facts-after : (t : List ℕ) (a s : ℕ) → factsOf (after s (Task.add t a) (Task.del t a)) ≡ apply (setting t) a (factsOf s)
 facts-after t a s = fun-ext (λ f. after-has s (Task.add t a) (Task.del t a) f)
+
+pub facts-result : (t : List ℕ) (a s : ℕ) → able (system t) a s ≡ true
+    → factsOf (result (system t) a s) ≡ apply (setting t) a (factsOf s)
+facts-result t a s b = ap factsOf (result-after t a s b) ∙ facts-after t a s
 
 -- what the routine's answer says of the facts of g
 pub data Decides (t : List ℕ) (a g : ℕ) : Decision ℕ → Type 0 where
@@ -47,8 +52,8 @@ decides t a g = at (routine (system t) (waits t) a g) (Pick.decided (system t) (
   where
     at : (d : Decision ℕ) → Pick.Decided (system t) (waits t) a g d → Decides t a g d
     at d (Pick.Decided.waits w) = waiting (waits-lack t a g w)
-    at d (Pick.Decided.goes w b) = goes (asks-within t a g w) (within-sub (Task.pre t a) g b)
-    at d (Pick.Decided.collides w b) = collides (asks-within t a g w) (not-within (Task.pre t a) g b)
+    at d (Pick.Decided.goes w b) = rw (result-after t a g b) (goes (asks-within t a g w) (able-sub t a g b))
+    at d (Pick.Decided.collides w b) = collides (asks-within t a g w) (unable-not-sub t a g b)
 
 decided : (t : List ℕ) (a g : ℕ) (d : Decision ℕ) → step t a g ≡ gives d → Decides t a g d → StepAgrees t a g
 decided t a g (Decision.go s) e (goes w p) =
