@@ -7,7 +7,7 @@ use lib.ListN.{length, getD}
 use lib.Dec.{eqb, ltb}
 use borrow.Author.Tests.{lt-ltb, le-ltb, eq-eqb, ne-eqb}
 use mir.Val.{boolByte}
-use Rattle.semantics.specs.Base.{_if_, Answer, refused, gives}
+use Rattle.semantics.specs.Base.{Answer, refused, gives}
 use Rattle.semantics.specs.Step.{step}
 use Rattle.semantics.specs.Solo.{soloReplay, soloSearch, SoloSearch}
 use Rattle.semantics.specs.Run.{jointReplay, pickOn}
@@ -28,15 +28,16 @@ use Rattle.solo_search.specs.Value.{searchedOf}
 use Rattle.solo_search.specs.declared.SearchAnswer.{SearchAnswer}
 use Rattle.solo_search.specs.declared.SearchAnswer.the-variants as search′
 use Rattle.run_pick.specs.Value as picksValue
-use Rattle.run_pick.specs.Value.{runOf, outcomeOf, PickMeans}
+use Rattle.run_pick.specs.Value.{runOf, replyOf, outcomeOf, PickMeans}
 use Rattle.run_pick.specs.declared.Replay.{Replay}
 use Rattle.run_pick.specs.declared.Replayed.{Replayed}
 use Rattle.run_pick.specs.declared.Replayed.the-variants as replayed
+use Rattle.run_pick.specs.declared.Reply.{Reply}
 use Rattle.run_pick.specs.declared.Run.{Run}
 use Rattle.run_pick.specs.declared.Picked.{Picked}
 use Rattle.run_pick.specs.declared.Answer.the-variants as answer
 use Rattle.theory.proofs.Lists.{or-left, or-right}
-use Rattle.run_pick.proofs.Laws.{means-go, means-collision, means-refused}
+use Rattle.run_pick.proofs.Laws.{means-gives, means-refused}
 use Rattle.text.specs.Post.{reading}
 use Rattle.text.specs.declared.TextRead.{TextRead}
 use Rattle.text.specs.declared.TextRead.the-variants as textRead
@@ -184,7 +185,7 @@ module _ (t plans ends run out : List ℕ) (member : ℕ) where
   abbrev pickShort : Bool
   pickShort = ltb (length run) runWords || ltb (length out) 1
 
-  abbrev done : Answer (Paper.Run ℕ)
+  abbrev done : Answer (Paper.Replied ℕ)
   done = pickOn t plans ends (runIn run) member
 
   abbrev PickCall : List ℕ → Call → Type 0
@@ -216,18 +217,16 @@ module _ (t plans ends run out : List ℕ) (member : ℕ) where
           called-slice run (after run done) pickShort run fits′ (sym (ap (after run) is)),
         )
 
-    module _ (result : ℕ) (now run′ : List ℕ) (held : run′ ≡ front (wordsOf (runOf (p .run))) run) where
-      given : (k : ℕ) → done ≡ gives (runOf (p .run)) → k ≡ (1 if p .run .collided) → call result now ≡ call 0 (front (k ∷ []) out) → PickCall run′ (call result now)
-      given k is number′ put = (
-        put ∙ given-call numbers.picked out done pickShort (runOf (p .run)) (front (k ∷ []) out) fits′ is (ap (λ (x : ℕ). front (x ∷ []) out) number′),
-        called-slice run (after run done) pickShort run′ fits′ (held ∙ sym (ap (after run) is)),
-      )
-
-      pub pick-goes : p .answer ≡ answer.Go → call result now ≡ call 0 (front (0 ∷ []) out) → PickCall run′ (call result now)
-      pick-goes so put = given 0 (means-go here so .0) (sym (ap (λ (b : Bool). 1 if b) (means-go here so .1))) put
-
-      pub pick-collides : p .answer ≡ answer.Collision → call result now ≡ call 0 (front (1 ∷ []) out) → PickCall run′ (call result now)
-      pick-collides so put = given 1 (means-collision here so .0) (sym (ap (λ (b : Bool). 1 if b) (means-collision here so .1))) put
+    pub pick-given : (x : Reply) → p .answer ≡ answer.Gives x → (k : ℕ) → k ≡ numbers.reply (replyOf x)
+        → (result : ℕ) (now run′ : List ℕ) → call result now ≡ call 0 (front (k ∷ []) out)
+        → run′ ≡ front (wordsOf (runOf (p .run))) run → PickCall run′ (call result now)
+    pick-given x so k number′ result now run′ put held =
+        let is : done ≡ gives (record { reply = replyOf x; run = runOf (p .run) }) = means-gives here x so in (
+          put
+              ∙ given-call numbers.picked out done pickShort (record { reply = replyOf x; run = runOf (p .run) }) (front (k ∷ []) out)
+              fits′ is (ap (λ (n : ℕ). front (n ∷ []) out) number′),
+          called-slice run (after run done) pickShort run′ fits′ (held ∙ sym (ap (after run) is)),
+        )
 
 -- ---- the text reader
 

@@ -4,7 +4,6 @@ use mathlib.Core.List.{List}
 use Prim.Native.Nat.{ℕ, zero, suc, _≤_, _<_}
 use native.Mathlib.Omega.{arith}
 use lib.ListN.{length}
-use lib.Dec.{ltb}
 use borrow.Author.Tests.{lt-ltb, le-ltb}
 use Rattle.semantics.specs.Base.{gives, unless}
 use Rattle.semantics.specs.Task.{check}
@@ -77,9 +76,11 @@ module _ (t plans ends run picks answers : List ℕ) where
       record { number = is; held = leaves-some refuses run words some; told = leaves-some refuses answers numbers some }
 
   module _ (room : runWords ≤ length run) (r : Run) (in-words : runOf r ≡ runIn run) (p : Played) (answers′ : List ℕ)
-      (means : PlayMeans t plans ends (runOf r) picks answers p answers′) where
-    there : PlayMeans t plans ends (runIn run) picks answers p answers′
-    there = subst (λ (x : Paper.Run ℕ). PlayMeans t plans ends x picks answers p answers′) in-words means
+      (means : PlayMeans t plans ends (playRefusal t plans ends (runOf r) picks answers) (runOf r) picks answers p answers′) where
+    there : PlayMeans t plans ends (playRefusal t plans ends (runIn run) picks answers) (runIn run) picks answers p answers′
+    there =
+        subst (λ (x : Paper.Run ℕ). PlayMeans t plans ends (playRefusal t plans ends x picks answers) x picks answers p answers′)
+        in-words means
 
     same : playRefusal t plans ends (runIn run) picks answers ≡ refuses
     same = rw (le-ltb (length run) runWords room)

@@ -163,9 +163,11 @@ pub extern "C" fn lawcheck_pick(
     let a = p.answer;
     let r = p.run;
     match a {
-        Answer::Go => capi_numbers::done(run, r, out, 0),
-        Answer::Collision => capi_numbers::done(run, r, out, 1),
         Answer::Refused(k) => k,
+        Answer::Gives(x) => {
+            let n = capi_numbers::reply_number(x);
+            capi_numbers::done(run, r, out, n)
+        }
     }
 }
 

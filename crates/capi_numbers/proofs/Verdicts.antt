@@ -2,11 +2,56 @@
 use mathlib.Core.Path.{_≡_, refl, sym, ap, _∙_}
 use mathlib.Core.List.{List, [], _∷_}
 use Prim.Native.Nat.{ℕ}
+use Rattle.fault.specs.Value.{faultOf, verdictOf}
+use Rattle.fault.specs.declared.Fault.{Fault}
+use Rattle.fault.specs.declared.Fault.the-variants.{Collision, Deadlock, Missed}
+use Rattle.fault.specs.declared.Failing.{Failing}
+use Rattle.fault.specs.declared.Verdict.{Verdict}
+use Rattle.fault.specs.declared.Verdict.the-variants.{Unsolvable, NotRobust, Robust}
 use Rattle.verdict.specs.Value.{answerOf}
 use Rattle.verdict.specs.declared.VerdictAnswer.{VerdictAnswer}
-use Rattle.verdict.specs.declared.VerdictAnswer.the-variants as verdict
+use Rattle.verdict.specs.declared.VerdictAnswer.the-variants as answer
 use Rattle.capi_numbers.specs.Call.{Call, call, front, told}
 use Rattle.capi_numbers.specs.Numbers as numbers
+
+-- ---- a fault
+
+module _ (f : Failing) (out : List ℕ) (c : Call) where
+  abbrev FailingCall : Type 0
+  FailingCall = c ≡ call 0 (front (numbers.failing (faultOf (f .fault)) (f .picked)) out)
+
+  fails : (x : Fault) → f .fault ≡ x → c ≡ call 0 (front (numbers.failing (faultOf x) (f .picked)) out) → FailingCall
+  fails x so e = e ∙ sym (ap (λ (y : Fault). call 0 (front (numbers.failing (faultOf y) (f .picked)) out)) so)
+
+  pub fails-collision : f .fault ≡ Collision → c ≡ call 0 (front (2 ∷ 0 ∷ f .picked ∷ []) out) → FailingCall
+  fails-collision so e = fails Collision so e
+
+  pub fails-deadlock : f .fault ≡ Deadlock → c ≡ call 0 (front (3 ∷ 0 ∷ f .picked ∷ []) out) → FailingCall
+  fails-deadlock so e = fails Deadlock so e
+
+  pub fails-missed : (i : ℕ) → f .fault ≡ Missed i → c ≡ call 0 (front (4 ∷ i ∷ f .picked ∷ []) out) → FailingCall
+  fails-missed i so e = fails (Missed i) so e
+
+-- ---- a verdict
+
+module _ (v : Verdict) (out : List ℕ) (c : Call) where
+  abbrev GivenCall : Type 0
+  GivenCall = c ≡ call 0 (front (numbers.verdict (verdictOf v)) out)
+
+  given : (x : Verdict) → v ≡ x → c ≡ call 0 (front (numbers.verdict (verdictOf x)) out) → GivenCall
+  given x so e = e ∙ sym (ap (λ (y : Verdict). call 0 (front (numbers.verdict (verdictOf y)) out)) so)
+
+  pub given-unsolvable : (i : ℕ) → v ≡ Unsolvable i → c ≡ call 0 (front (1 ∷ i ∷ 0 ∷ []) out) → GivenCall
+  given-unsolvable i so e = given (Unsolvable i) so e
+
+  pub given-failing : (f : Failing) → v ≡ NotRobust f
+      → c ≡ call 0 (front (numbers.failing (faultOf (f .fault)) (f .picked)) out) → GivenCall
+  given-failing f so e = given (NotRobust f) so e
+
+  pub given-robust : (n : ℕ) → v ≡ Robust n → c ≡ call 0 (front (0 ∷ 0 ∷ n ∷ []) out) → GivenCall
+  given-robust n so e = given (Robust n) so e
+
+-- ---- an answer
 
 module _ (v : VerdictAnswer) (out : List ℕ) where
   abbrev TellCall : Call → Type 0
@@ -15,21 +60,9 @@ module _ (v : VerdictAnswer) (out : List ℕ) where
   tells : (x : VerdictAnswer) (c : Call) → v ≡ x → c ≡ told numbers.verdict out (answerOf x) → TellCall c
   tells x c so e = e ∙ sym (ap (λ (y : VerdictAnswer). told numbers.verdict out (answerOf y)) so)
 
-  pub tell-refused : (k : ℕ) → v ≡ verdict.Refused k → TellCall (call k out)
-  tell-refused k so = tells (verdict.Refused k) (call k out) so refl
+  pub tell-refused : (k : ℕ) → v ≡ answer.Refused k → TellCall (call k out)
+  tell-refused k so = tells (answer.Refused k) (call k out) so refl
 
-  module _ (r : ℕ) (now : List ℕ) where
-    pub tell-robust : (n : ℕ) → v ≡ verdict.Robust n → call r now ≡ call 0 (front (0 ∷ 0 ∷ n ∷ []) out) → TellCall (call r now)
-    tell-robust n so e = tells (verdict.Robust n) (call r now) so e
-
-    pub tell-unsolvable : (i : ℕ) → v ≡ verdict.Unsolvable i → call r now ≡ call 0 (front (1 ∷ i ∷ 0 ∷ []) out) → TellCall (call r now)
-    tell-unsolvable i so e = tells (verdict.Unsolvable i) (call r now) so e
-
-    pub tell-collision : (k : ℕ) → v ≡ verdict.Collision k → call r now ≡ call 0 (front (2 ∷ 0 ∷ k ∷ []) out) → TellCall (call r now)
-    tell-collision k so e = tells (verdict.Collision k) (call r now) so e
-
-    pub tell-deadlock : (k : ℕ) → v ≡ verdict.Deadlock k → call r now ≡ call 0 (front (3 ∷ 0 ∷ k ∷ []) out) → TellCall (call r now)
-    tell-deadlock k so e = tells (verdict.Deadlock k) (call r now) so e
-
-    pub tell-missed : (i k : ℕ) → v ≡ verdict.Missed i k → call r now ≡ call 0 (front (4 ∷ i ∷ k ∷ []) out) → TellCall (call r now)
-    tell-missed i k so e = tells (verdict.Missed i k) (call r now) so e
+  pub tell-given : (r : ℕ) (now : List ℕ) (g : Verdict) → v ≡ answer.Gives g
+      → call r now ≡ call 0 (front (numbers.verdict (verdictOf g)) out) → TellCall (call r now)
+  tell-given r now g so e = tells (answer.Gives g) (call r now) so e

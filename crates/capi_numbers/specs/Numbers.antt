@@ -4,7 +4,7 @@ use Prim.Native.Nat.{ℕ}
 use Rattle.semantics.specs.Base.{_if_}
 use Rattle.semantics.specs.Step.{Decision}
 use Rattle.semantics.specs.Solo.{Solo, solves, breaks, short, Searched}
-use Rattle.semantics.specs.Run.{Fault, Outcome, success, failure, still-open, Replay, Run}
+use Rattle.semantics.specs.Run.{Fault, Reply, Replied, Outcome, success, failure, still-open, Replay}
 use Rattle.semantics.specs.Verdict.{Verdict, unsolvable, notRobust, robust, Failing}
 
 -- 0 go, 1 wait, 2 collision; the new shared copy
@@ -35,8 +35,12 @@ abbrev pub replay : Replay ℕ → List ℕ
 replay r = replayed (r .outcome) (r .picked) (r .shared)
 
 -- 0 go, 1 collision
-abbrev pub picked : Run ℕ → List ℕ
-picked r = (1 if r .collided) ∷ []
+abbrev pub reply : Reply → ℕ
+reply Reply.goes = 0
+reply Reply.collides = 1
+
+abbrev pub picked : Replied ℕ → List ℕ
+picked p = reply (p .reply) ∷ []
 
 -- 0 robust, 1 unsolvable, 2 collision, 3 deadlock, 4 missed; member; number
 abbrev pub failing : Fault → ℕ → List ℕ

@@ -1,24 +1,32 @@
--- A run as ten words: collided where not 0, eight places, the shared copy.
-use mathlib.Core.Bool.{not}
-use mathlib.Core.List.{List, [], _∷_, _++_}
-use Prim.Native.Nat.{ℕ}
+-- A run as ten words: whether it is closed, eight places, the shared copy.
+use mathlib.Core.List.{List, [], _∷_, _++_, map}
+use Prim.Native.Nat.{ℕ, zero, suc}
 use lib.ListN.{getD}
 use lib.Seq.{slice}
-use lib.Dec.{eqb}
-use Rattle.semantics.specs.Base.{_if_, Answer, refused, gives}
-use Rattle.semantics.specs.Run.{Run}
+use Rattle.semantics.specs.Base.{upTo, Answer, refused, gives}
+use Rattle.semantics.specs.Run.{Fault, Closed, not-yet, by, Run, Replied}
 use Rattle.capi_numbers.specs.Call.{front}
 
 abbrev pub runWords : ℕ
 runWords = 10
 
+-- the first word: 0 is not closed, any other is closed by a collision; written as 1
+abbrev pub closedIn : ℕ → Closed
+closedIn zero = not-yet
+closedIn (suc w) = by Fault.collision
+
+abbrev pub closedWord : Closed → ℕ
+closedWord not-yet = 0
+closedWord (by f) = 1
+
 abbrev pub runIn : List ℕ → Run ℕ
-runIn words = record { shared = getD words 9 0; places = slice 1 9 words; collided = not (eqb (getD words 0 0) 0) }
+runIn words =
+    record { shared = getD words 9 0; places = λ j. getD (slice 1 9 words) j 0; closed = closedIn (getD words 0 0) }
 
 abbrev pub wordsOf : Run ℕ → List ℕ
-wordsOf r = (1 if r .collided) ∷ (r .places ++ (r .shared ∷ []))
+wordsOf r = closedWord (r .closed) ∷ (map (r .places) (upTo 8) ++ (r .shared ∷ []))
 
 -- the words after a pick: the run after it at their front, or as they were where the pick is refused
-abbrev pub after : List ℕ → Answer (Run ℕ) → List ℕ
+abbrev pub after : List ℕ → Answer (Replied ℕ) → List ℕ
 after words (refused k) = words
-after words (gives r) = front (wordsOf r) words
+after words (gives p) = front (wordsOf (p .run)) words

@@ -5,13 +5,19 @@ ghost use Prim.Native.Nat.{_≤_};
 ghost use lib.ListN.{length};
 ghost use Rattle.step.specs.Value.{decisionOf};
 ghost use Rattle.solo_replay.specs.Value.{soloOf};
-ghost use Rattle.run_pick.specs.Value.{runOf, outcomeOf};
+ghost use Rattle.run_pick.specs.Value.{closedOf, runOf, replyOf, outcomeOf};
+ghost use Rattle.fault.specs.Value.{faultOf, verdictOf};
 ghost use Rattle.verdict.specs.Value.{answerOf};
 ghost use Rattle.capi_numbers.specs.Call.{call, front, told};
 ghost use Rattle.capi_numbers.specs.Numbers as numbers;
-ghost use Rattle.capi_numbers.specs.Runs.{runWords, runIn, wordsOf};
+ghost use Rattle.capi_numbers.specs.Runs.{runWords, closedIn, closedWord, runIn, wordsOf};
+use fault::Failing;
+use fault::Fault;
+use fault::Verdict;
 use mask::Shared;
+use run_pick::Closed;
 use run_pick::Outcome;
+use run_pick::Reply;
 use run_pick::Run;
 use solo_replay::Solo;
 use step::Decision;
@@ -54,10 +60,40 @@ pub fn replay_numbers(o: Outcome, k: u64, g: u64) -> [u64; 4]
 {
     match o {
         Outcome::Success => [0, 0, k, g],
-        Outcome::Collision => [1, 0, k, g],
-        Outcome::Deadlock => [2, 0, k, g],
-        Outcome::Missed(j) => [3, j as u64, k, g],
+        Outcome::Failure(f) => match f {
+            Fault::Collision => [1, 0, k, g],
+            Fault::Deadlock => [2, 0, k, g],
+            Fault::Missed(j) => [3, j as u64, k, g],
+        },
         Outcome::Open => [4, 0, k, g],
+    }
+}
+
+pub fn reply_number(r: Reply) -> u64
+    ensures { λ n. ⌜ n ≡ numbers.reply (replyOf r) ⌝ }
+{
+    match r {
+        Reply::Go => 0,
+        Reply::Collision => 1,
+    }
+}
+
+// What the first word of a run says.
+fn closed_in(word: u64) -> Closed
+    ensures { λ r. ⌜ closedOf r ≡ closedIn word ⌝ }
+{
+    if word == 0 {
+        return Closed::NotYet;
+    }
+    Closed::By(Fault::Collision)
+}
+
+fn closed_word(c: Closed) -> u64
+    ensures { λ r. ⌜ r ≡ closedWord (closedOf c) ⌝ }
+{
+    match c {
+        Closed::NotYet => 0,
+        Closed::By(_) => 1,
     }
 }
 
@@ -77,10 +113,11 @@ pub fn run_of(words: &[u64]) -> Run
         words[7],
         words[8],
     ];
+    let closed = closed_in(words[0]);
     Run {
         shared: g,
         places: places,
-        collided: words[0] != 0,
+        closed: closed,
     }
 }
 
@@ -90,7 +127,8 @@ pub fn words_of(r: Run) -> [u64; 10]
 {
     let p = r.places;
     let g = r.shared;
-    let c = r.collided as u64;
+    let closed = r.closed;
+    let c = closed_word(closed);
     let w = mask::to_word(g.0);
     [c, p[0], p[1], p[2], p[3], p[4], p[5], p[6], p[7], w]
 }
@@ -119,16 +157,37 @@ pub fn verdict_numbers(out: &mut [u64], kind: u64, member: usize, number: usize)
     0
 }
 
+// The numbers of a fault, so many picks being done before it.
+fn failing_numbers(f: Failing, out: &mut [u64]) -> u64
+    requires { ⌜ 3 ≤ length (now out) ⌝ }
+    ensures { λ r. ⌜ call r (now (out .exit)) ≡ call 0 (front (numbers.failing (faultOf (f .fault)) (f .picked)) (now (out .entry))) ⌝ }
+{
+    let fault = f.fault;
+    match fault {
+        Fault::Collision => verdict_numbers(out, 2, 0, f.picked),
+        Fault::Deadlock => verdict_numbers(out, 3, 0, f.picked),
+        Fault::Missed(i) => verdict_numbers(out, 4, i, f.picked),
+    }
+}
+
+// The numbers of a verdict.
+fn given_numbers(v: Verdict, out: &mut [u64]) -> u64
+    requires { ⌜ 3 ≤ length (now out) ⌝ }
+    ensures { λ r. ⌜ call r (now (out .exit)) ≡ call 0 (front (numbers.verdict (verdictOf v)) (now (out .entry))) ⌝ }
+{
+    match v {
+        Verdict::Unsolvable(i) => verdict_numbers(out, 1, i, 0),
+        Verdict::NotRobust(f) => failing_numbers(f, out),
+        Verdict::Robust(c) => verdict_numbers(out, 0, 0, c),
+    }
+}
+
 pub fn tell(v: VerdictAnswer, out: &mut [u64]) -> u64
     requires { ⌜ 3 ≤ length (now out) ⌝ }
     ensures { λ r. ⌜ call r (now (out .exit)) ≡ told numbers.verdict (now (out .entry)) (answerOf v) ⌝ }
 {
     match v {
         VerdictAnswer::Refused(k) => k,
-        VerdictAnswer::Robust(c) => verdict_numbers(out, 0, 0, c),
-        VerdictAnswer::Unsolvable(i) => verdict_numbers(out, 1, i, 0),
-        VerdictAnswer::Collision(k) => verdict_numbers(out, 2, 0, k),
-        VerdictAnswer::Deadlock(k) => verdict_numbers(out, 3, 0, k),
-        VerdictAnswer::Missed(i, k) => verdict_numbers(out, 4, i, k),
+        VerdictAnswer::Gives(g) => given_numbers(g, out),
     }
 }

@@ -1,9 +1,21 @@
--- The paper's fault for each case of the enum.
-use Rattle.semantics.specs.Run as Paper
+-- The paper's fault and verdict for each case of the enums.
+use Rattle.semantics.specs.Run as Run
+use Rattle.semantics.specs.Verdict as Paper
 use Rattle.fault.specs.declared.Fault.{Fault}
 use Rattle.fault.specs.declared.Fault.the-variants.{Collision, Deadlock, Missed}
+use Rattle.fault.specs.declared.Failing.{Failing}
+use Rattle.fault.specs.declared.Verdict.{Verdict}
+use Rattle.fault.specs.declared.Verdict.the-variants.{Unsolvable, NotRobust, Robust}
 
-abbrev pub faultOf : Fault → Paper.Fault
-faultOf Collision = Paper.collision
-faultOf Deadlock = Paper.deadlock
-faultOf (Missed j) = Paper.missed j
+abbrev pub faultOf : Fault → Run.Fault
+faultOf Collision = Run.collision
+faultOf Deadlock = Run.deadlock
+faultOf (Missed j) = Run.missed j
+
+abbrev pub failingOf : Failing → Paper.Failing
+failingOf f = record { fault = faultOf (f .fault); picked = f .picked }
+
+abbrev pub verdictOf : Verdict → Paper.Verdict Paper.Failing
+verdictOf (Unsolvable i) = Paper.unsolvable i
+verdictOf (NotRobust f) = Paper.notRobust (failingOf f)
+verdictOf (Robust n) = Paper.robust n

@@ -6,12 +6,17 @@ ghost use mathlib.Core.List.{[], _∷_, _++_};
 ghost use Prim.Native.Nat.{_+_, _≤_, _<_};
 ghost use lib.ListN.{length, getD, take};
 ghost use lib.Seq.{slice};
-ghost use Rattle.semantics.specs.Run.{Fault};
 ghost use Rattle.theory.proofs.Laid.{Laid};
 ghost use Rattle.text.specs.Inner.Written.{digits};
-ghost use Rattle.verdict.specs.Value.{failing, answerOf};
-ghost use Rattle.report.specs.File.{word, header, line, lines, planLines, plansLines, conflictLines, body, file};
+ghost use Rattle.semantics.specs.Base.{gives};
+ghost use Rattle.semantics.specs.Verdict.{notRobust, conflictPicks};
+ghost use Rattle.fault.specs.Value.{faultOf, failingOf, verdictOf};
+ghost use Rattle.verdict.specs.Value.{answerOf};
+ghost use Rattle.report.specs.File.{word, header, line, lines, planLines, plansLines, conflictLines, faultLine, body, file};
 ghost use Rattle.report.specs.Inner.Put.{mostLine, mostFile, Room, Inside, Holds, conflictOf};
+use fault::Failing;
+use fault::Fault;
+use fault::Verdict;
 use verdict::VerdictAnswer;
 
 fn put_byte(out: &mut [u8], at: usize, byte: u8) -> usize
@@ -190,93 +195,74 @@ fn put_robust(out: &mut [u8], at: usize, count: usize) -> usize
     put_line(out, at, b"robust", count as u64)
 }
 
-// A fault's line, then the conflict with so many picks.
-fn put_fault(
+// A fault's line.
+fn put_fault(out: &mut [u8], at: usize, f: Failing) -> usize
+    requires { ⌜ at + mostLine ≤ length (now out) ⌝ }
+    ensures { λ r. ⌜ Laid (faultLine (faultOf (f .fault)) (f .picked)) (now (out .entry)) at (now (out .exit)) r ⌝ }
+    ensures { λ r. ⌜ r ≤ at + mostLine ⌝ }
+{
+    let fault = f.fault;
+    let done = f.picked as u64;
+    match fault {
+        Fault::Collision => put_line(out, at, b"collision", done),
+        Fault::Deadlock => put_line(out, at, b"deadlock", done),
+        Fault::Missed(member) => put_line(out, at, b"missed", member as u64),
+    }
+}
+
+// The picks of its conflict, which the slice holds.
+fn pick_count(picks: &[u8], f: Failing) -> usize
+    requires { ⌜ conflictPicks (faultOf (f .fault)) (f .picked) ≤ length (now picks) ⌝ }
+    ensures { λ r. ⌜ r ≡ conflictPicks (faultOf (f .fault)) (f .picked) ⌝ }
+{
+    let fault = f.fault;
+    match fault {
+        Fault::Collision => f.picked + 1,
+        Fault::Deadlock => f.picked,
+        Fault::Missed(_) => f.picked,
+    }
+}
+
+// A fault's line, then its conflict.
+fn put_failing(
     out: &mut [u8],
     at: usize,
-    name: &[u8],
-    v: u64,
+    f: Failing,
     n: usize,
     plans: &[u16],
     ends: &[u64],
     picks: &[u8],
-    count: usize,
 ) -> usize
-    requires { ⌜ Inside n (now plans) (now ends) ⌝ }
-    requires { ⌜ count ≤ length (now picks) ⌝ }
-    requires { ⌜ length (now name) ≤ 10 ⌝ }
-    requires { ⌜ Room (now out) (at + mostLine) (conflictLines n (now plans) (now ends) (take count (now picks))) ⌝ }
-    ensures { λ r. ⌜ Laid
-        (line (now (name .entry)) v ++ conflictLines n (now (plans .entry)) (now (ends .entry)) (take count (now (picks .entry))))
+    requires { ⌜ Holds (gives (notRobust (failingOf f))) n (now plans) (now ends) (now picks) ⌝ }
+    requires { ⌜ Room (now out) (at + mostLine) (conflictOf (gives (notRobust (failingOf f))) n (now plans) (now ends) (now picks)) ⌝ }
+    ensures { λ r. ⌜ Laid (body (gives (notRobust (failingOf f))) n (now (plans .entry)) (now (ends .entry)) (now (picks .entry)))
         (now (out .entry)) at (now (out .exit)) r ⌝ }
 {
-    let next = put_line(out, at, name, v);
+    let next = put_fault(out, at, f);
+    let count = pick_count(picks, f);
     put_conflict(out, next, n, plans, ends, &picks[..count])
 }
 
-fn put_collision(
+// The lines of a verdict.
+fn put_verdict(
     out: &mut [u8],
     at: usize,
-    k: usize,
+    v: Verdict,
     n: usize,
     plans: &[u16],
     ends: &[u64],
     picks: &[u8],
 ) -> usize
-    requires { ⌜ Holds (failing Fault.collision k) n (now plans) (now ends) (now picks) ⌝ }
-    requires { ⌜ Room (now out) (at + mostLine) (conflictOf (failing Fault.collision k) n (now plans) (now ends) (now picks)) ⌝ }
-    ensures { λ r. ⌜ Laid
-        (body (failing Fault.collision k) n (now (plans .entry)) (now (ends .entry)) (now (picks .entry)))
+    requires { ⌜ Holds (gives (verdictOf v)) n (now plans) (now ends) (now picks) ⌝ }
+    requires { ⌜ Room (now out) (at + mostLine) (conflictOf (gives (verdictOf v)) n (now plans) (now ends) (now picks)) ⌝ }
+    ensures { λ r. ⌜ Laid (body (gives (verdictOf v)) n (now (plans .entry)) (now (ends .entry)) (now (picks .entry)))
         (now (out .entry)) at (now (out .exit)) r ⌝ }
 {
-    put_fault(
-        out,
-        at,
-        b"collision",
-        k as u64,
-        n,
-        plans,
-        ends,
-        picks,
-        k + 1,
-    )
-}
-
-fn put_deadlock(
-    out: &mut [u8],
-    at: usize,
-    k: usize,
-    n: usize,
-    plans: &[u16],
-    ends: &[u64],
-    picks: &[u8],
-) -> usize
-    requires { ⌜ Holds (failing Fault.deadlock k) n (now plans) (now ends) (now picks) ⌝ }
-    requires { ⌜ Room (now out) (at + mostLine) (conflictOf (failing Fault.deadlock k) n (now plans) (now ends) (now picks)) ⌝ }
-    ensures { λ r. ⌜ Laid
-        (body (failing Fault.deadlock k) n (now (plans .entry)) (now (ends .entry)) (now (picks .entry)))
-        (now (out .entry)) at (now (out .exit)) r ⌝ }
-{
-    put_fault(out, at, b"deadlock", k as u64, n, plans, ends, picks, k)
-}
-
-fn put_missed(
-    out: &mut [u8],
-    at: usize,
-    member: usize,
-    k: usize,
-    n: usize,
-    plans: &[u16],
-    ends: &[u64],
-    picks: &[u8],
-) -> usize
-    requires { ⌜ Holds (failing (Fault.missed member) k) n (now plans) (now ends) (now picks) ⌝ }
-    requires { ⌜ Room (now out) (at + mostLine) (conflictOf (failing (Fault.missed member) k) n (now plans) (now ends) (now picks)) ⌝ }
-    ensures { λ r. ⌜ Laid
-        (body (failing (Fault.missed member) k) n (now (plans .entry)) (now (ends .entry)) (now (picks .entry)))
-        (now (out .entry)) at (now (out .exit)) r ⌝ }
-{
-    put_fault(out, at, b"missed", member as u64, n, plans, ends, picks, k)
+    match v {
+        Verdict::Unsolvable(i) => put_unsolvable(out, at, i),
+        Verdict::NotRobust(f) => put_failing(out, at, f, n, plans, ends, picks),
+        Verdict::Robust(count) => put_robust(out, at, count),
+    }
 }
 
 // The lines after the first.
@@ -296,11 +282,7 @@ fn put_body(
 {
     match answer {
         VerdictAnswer::Refused(k) => put_refused(out, at, k),
-        VerdictAnswer::Unsolvable(i) => put_unsolvable(out, at, i),
-        VerdictAnswer::Collision(k) => put_collision(out, at, k, n, plans, ends, picks),
-        VerdictAnswer::Deadlock(k) => put_deadlock(out, at, k, n, plans, ends, picks),
-        VerdictAnswer::Missed(i, k) => put_missed(out, at, i, k, n, plans, ends, picks),
-        VerdictAnswer::Robust(count) => put_robust(out, at, count),
+        VerdictAnswer::Gives(v) => put_verdict(out, at, v, n, plans, ends, picks),
     }
 }
 

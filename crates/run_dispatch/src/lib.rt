@@ -1,22 +1,16 @@
 // The dispatcher: a run that is lent by &mut to each pick; its start, and a list of picks on it.
-ghost use mathlib.Core.Path.{_≡_};
-ghost use Rattle.semantics.specs.Run.{plansRefusal, startOf, pickOn, playOn};
+ghost use Rattle.semantics.specs.Run.{startOf, pickOn, playOn};
 ghost use Rattle.run_pick.specs.Value.{runOf, PickMeans};
-ghost use Rattle.run_dispatch.specs.Inner.Play.{playIn};
 ghost use Rattle.run_dispatch.specs.Value.{emptyRun, LentMeans, RunMeans};
 use mask::Shared;
 use run_pick::Answer;
+use run_pick::Closed;
 use run_pick::Picked;
 use run_pick::Run;
+use run_play::Played;
 
 // The task check's refusal, 0 where there is none, and the run at the start.
 pub struct Started {
-    pub refusal: u64,
-    pub run: Run,
-}
-
-// The refusal of the task, plans or run, 0 where there is none, and the run after the picks.
-pub struct Played {
     pub refusal: u64,
     pub run: Run,
 }
@@ -31,7 +25,7 @@ pub fn start(t: &[u64]) -> Started
         let none = Run {
             shared: g,
             places: [0; 8],
-            collided: false,
+            closed: Closed::NotYet,
         };
         return Started {
             refusal: c,
@@ -67,22 +61,6 @@ pub fn once(t: &[u64], plans: &[u16], ends: &[u64], run: Run, member: u8) -> Pic
     }
 }
 
-// The picks in turn, each meeting the run as the last one left it; impossible ones are passed over.
-fn play_all(t: &[u64], plans: &[u16], ends: &[u64], run: Run, picks: &[u8]) -> Run
-    requires { ⌜ plansRefusal (now t) (now plans) (now ends) ≡ 0 ⌝ }
-    ensures { λ r. ⌜ runOf r
-        ≡ playIn (now (t .entry)) (now (plans .entry)) (now (ends .entry)) (runOf run) (now (picks .entry)) ⌝ }
-{
-    let mut current = run;
-    let mut k = 0;
-    while k < picks.len() {
-        let p = run_pick::pick(t, plans, ends, current, picks[k] as usize);
-        current = p.run;
-        k += 1;
-    }
-    current
-}
-
 // A list of picks on a run, for every input; the task, plans and run are looked at once. Any run
 // may be handed in, and it comes back as it was where there is a refusal.
 pub fn play(t: &[u64], plans: &[u16], ends: &[u64], run: Run, picks: &[u8]) -> Played
@@ -90,16 +68,6 @@ pub fn play(t: &[u64], plans: &[u16], ends: &[u64], run: Run, picks: &[u8]) -> P
         (playOn (now (t .entry)) (now (plans .entry)) (now (ends .entry)) (runOf run) (now (picks .entry)))
         (runOf run) (r .refusal) (r .run) ⌝ }
 {
-    let e = run_replay::refusal(t, plans, ends, run);
-    if e != 0 {
-        return Played {
-            refusal: e,
-            run: run,
-        };
-    }
-    let last = play_all(t, plans, ends, run, picks);
-    Played {
-        refusal: 0,
-        run: last,
-    }
+    let mut none: [u64; 1] = [0];
+    run_play::play_into(t, plans, ends, run, picks, &mut none)
 }

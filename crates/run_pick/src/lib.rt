@@ -1,29 +1,43 @@
 // Runs of an accepted task with checked plans: a single pick, a run's outcome, and a list of picks from the start.
 ghost use mathlib.Core.Path.{_≡_};
-ghost use Prim.Native.Nat.{_<_};
+ghost use Prim.Native.Nat.{_+_, _^_, _<_};
 ghost use lib.ListN.{getD};
 ghost use Rattle.semantics.specs.Base.{upTo, refused};
 ghost use Rattle.semantics.specs.Task.{check, members};
 ghost use Rattle.semantics.specs.System.{system};
-ghost use Rattle.semantics.specs.Run.{given, start, missedIn, plansRefusal, pastEnd};
+ghost use Rattle.semantics.specs.Run.{isClosed, advance, given, counted, start, missedIn, plansRefusal, pastEnd};
 ghost use Rattle.mask.specs.Number.{sharedNumber};
-ghost use Rattle.run_pick.specs.Value.{runOf, outcomeOf, replayedOf, PickMeans};
+ghost use Rattle.step.specs.Value.{decisionOf};
+ghost use Rattle.run_pick.specs.Value.{closedOf, runOf, replyOf, outcomeOf, replayedOf, PickMeans};
 ghost use Rattle.run_pick.specs.Inner.Meaning.{pickIn, pickableIn, stepsLeftIn, outcomeIn, replayIn};
+use fault::Fault;
 use mask::Shared;
 use step::Decision;
 
-// A run, beside its plans: the shared copy, each member's place in its plan, and whether it has collided.
+// What has closed a run.
+pub enum Closed {
+    NotYet,
+    By(Fault),
+}
+
+// A run, beside its plans: the shared copy, each member's place in its plan, and what has closed
+// it. A task has at most eight members.
 pub struct Run {
     pub shared: Shared,
     pub places: [u64; 8],
-    pub collided: bool,
+    pub closed: Closed,
+}
+
+// What a pick that is not refused replies.
+pub enum Reply {
+    Go,
+    Collision,
 }
 
 // What a pick answers.
 pub enum Answer {
-    Go,
-    Collision,
     Refused(u64),
+    Gives(Reply),
 }
 
 // A pick's answer with the run after it.
@@ -32,12 +46,10 @@ pub struct Picked {
     pub run: Run,
 }
 
-// What a run has come to; missed with the lowest member whose goal is missing.
+// What a run has come to.
 pub enum Outcome {
     Success,
-    Collision,
-    Deadlock,
-    Missed(usize),
+    Failure(Fault),
     Open,
 }
 
@@ -65,6 +77,17 @@ fn place(t: &[u64], run: Run, j: usize) -> u64
     places[j]
 }
 
+// Whether something has closed the run.
+fn is_closed(run: Run) -> bool
+    ensures { λ r. ⌜ r ≡ isClosed (closedOf (run .closed)) ⌝ }
+{
+    let c = run.closed;
+    match c {
+        Closed::NotYet => false,
+        Closed::By(_) => true,
+    }
+}
+
 // A pick that is refused with k; it changes nothing.
 pub fn refuse(run: Run, k: u64) -> Picked
     ensures { λ r. ⌜ PickMeans (refused k) run r ⌝ }
@@ -72,6 +95,41 @@ pub fn refuse(run: Run, k: u64) -> Picked
     Picked {
         answer: Answer::Refused(k),
         run: run,
+    }
+}
+
+// What the routine's decision makes of the run; where it goes, member j comes to the place `to`.
+fn advance(run: Run, j: usize, to: u64, d: Decision) -> Picked
+    requires { ⌜ j < 8 ⌝ }
+    requires { ⌜ to ≡ getD (run .places) j 0 + 1 ⌝ }
+    ensures { λ r. ⌜ PickMeans (advance (runOf run) j (decisionOf d)) run r ⌝ }
+{
+    let s = run.shared;
+    let held = run.places;
+    let mut moved = run.places;
+    moved[j] = to;
+    let closed = Run {
+        shared: s,
+        places: held,
+        closed: Closed::By(Fault::Collision),
+    };
+    match d {
+        Decision::Go(g) => {
+            let next = Run {
+                shared: g,
+                places: moved,
+                closed: Closed::NotYet,
+            };
+            Picked {
+                answer: Answer::Gives(Reply::Go),
+                run: next,
+            }
+        }
+        Decision::Wait => refuse(run, 13),
+        Decision::Collision => Picked {
+            answer: Answer::Gives(Reply::Collision),
+            run: closed,
+        },
     }
 }
 
@@ -83,7 +141,7 @@ pub fn pick(t: &[u64], plans: &[u16], ends: &[u64], run: Run, j: usize) -> Picke
     if task::members(t) <= j {
         return refuse(run, 8);
     }
-    if run.collided {
+    if is_closed(run) {
         return refuse(run, 13);
     }
     let k = place(t, run, j);
@@ -93,33 +151,7 @@ pub fn pick(t: &[u64], plans: &[u16], ends: &[u64], run: Run, j: usize) -> Picke
     }
     let a = run_plans::action(t, plans, ends, j, k);
     let d = step::decide(t, a, run.shared);
-    let s = run.shared;
-    let held = run.places;
-    let mut moved = run.places;
-    moved[j] = k + 1;
-    let closed = Run {
-        shared: s,
-        places: held,
-        collided: true,
-    };
-    match d {
-        Decision::Go(g) => {
-            let next = Run {
-                shared: g,
-                places: moved,
-                collided: false,
-            };
-            Picked {
-                answer: Answer::Go,
-                run: next,
-            }
-        }
-        Decision::Wait => refuse(run, 13),
-        Decision::Collision => Picked {
-            answer: Answer::Collision,
-            run: closed,
-        },
-    }
+    advance(run, j, k + 1, d)
 }
 
 // ---- a run's outcome
@@ -132,9 +164,8 @@ fn possible(t: &[u64], plans: &[u16], ends: &[u64], run: Run, j: usize) -> bool
     let p = pick(t, plans, ends, run, j);
     let a = p.answer;
     match a {
-        Answer::Go => true,
-        Answer::Collision => true,
         Answer::Refused(_) => false,
+        Answer::Gives(_) => true,
     }
 }
 
@@ -180,7 +211,7 @@ fn missed(t: &[u64], g: Shared) -> Outcome
     let mut j = 0;
     while j < n {
         if !mask::within(task::goal(t, j), s) {
-            return Outcome::Missed(j);
+            return Outcome::Failure(Fault::Missed(j));
         }
         j += 1;
     }
@@ -192,14 +223,15 @@ pub fn outcome_of(t: &[u64], plans: &[u16], ends: &[u64], run: Run) -> Outcome
     requires { ⌜ plansRefusal (now t) (now plans) (now ends) ≡ 0 ⌝ }
     ensures { λ r. ⌜ outcomeOf r ≡ outcomeIn (now (t .entry)) (now (plans .entry)) (now (ends .entry)) (runOf run) ⌝ }
 {
-    if run.collided {
-        return Outcome::Collision;
+    let c = run.closed;
+    if let Closed::By(f) = c {
+        return Outcome::Failure(f);
     }
     if pickable(t, plans, ends, run) {
         return Outcome::Open;
     }
     if steps_left(t, plans, ends, run) {
-        return Outcome::Deadlock;
+        return Outcome::Failure(Fault::Deadlock);
     }
     missed(t, run.shared)
 }
@@ -215,7 +247,18 @@ pub fn start(t: &[u64]) -> Run
     Run {
         shared: g,
         places: [0; 8],
-        collided: false,
+        closed: Closed::NotYet,
+    }
+}
+
+// The picks done, after one more that replied so: a collision is not counted.
+fn count(done: usize, r: Reply) -> usize
+    requires { ⌜ done + 1 < 2 ^ 64 ⌝ }
+    ensures { λ n. ⌜ n ≡ counted done (replyOf r) ⌝ }
+{
+    match r {
+        Reply::Go => done + 1,
+        Reply::Collision => done,
     }
 }
 
@@ -228,19 +271,19 @@ pub fn replay_all(t: &[u64], plans: &[u16], ends: &[u64], picks: &[u8]) -> Repla
     let mut done: usize = 0;
     let mut i = 0;
     while i < picks.len() {
-        let p = pick(t, plans, ends, run, picks[i] as usize);
+        let j = picks[i] as usize;
+        i += 1;
+        let p = pick(t, plans, ends, run, j);
         let a = p.answer;
         match a {
-            Answer::Go => {
-                done += 1;
-            }
-            Answer::Collision => {}
             Answer::Refused(e) => {
                 return Replayed::Refused(e);
             }
+            Answer::Gives(r) => {
+                done = count(done, r);
+            }
         }
         run = p.run;
-        i += 1;
     }
     let o = outcome_of(t, plans, ends, run);
     let s = run.shared;

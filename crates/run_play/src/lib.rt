@@ -1,14 +1,17 @@
-// A list of picks on a run, with the answer of each in a lent slice; the plans are looked at once.
+// A list of picks on a run; the task, plans and run are looked at once. The answer of each pick goes
+// into a lent slice.
 ghost use mathlib.Core.Path.{_≡_};
-ghost use Prim.Native.Nat.{_≤_};
-ghost use lib.ListN.{length};
-ghost use Rattle.semantics.specs.Run.{plansRefusal};
+ghost use lib.ListN.{set};
+ghost use Rattle.semantics.specs.Run.{plansRefusal, runRefusal};
 ghost use Rattle.run_pick.specs.Value.{runOf, answerOf};
-ghost use Rattle.run_play.specs.Value.{numberIn, AllMean, PlayMeans};
+ghost use Rattle.run_play.specs.Value.{numberIn, playRefusal, PlayMeans};
+ghost use Rattle.run_play.specs.Inner.Play.{AllMean};
 use run_pick::Answer;
+use run_pick::Reply;
 use run_pick::Run;
 
-// The refusal of the slice, the task, the plans or the run, 0 where there is none, and the run after the picks.
+// The refusal, 0 where there is none, and the run after the picks: as it was where there is a
+// refusal.
 pub struct Played {
     pub refusal: u64,
     pub run: Run,
@@ -19,9 +22,20 @@ fn number(a: Answer) -> u64
     ensures { λ r. ⌜ r ≡ numberIn (answerOf a) ⌝ }
 {
     match a {
-        Answer::Go => 0,
-        Answer::Collision => 1,
         Answer::Refused(k) => k,
+        Answer::Gives(r) => match r {
+            Reply::Go => 0,
+            Reply::Collision => 1,
+        },
+    }
+}
+
+// The answer of pick k, where the slice holds so many.
+fn put(answers: &mut [u64], k: usize, v: u64)
+    ensures { λ _. ⌜ now (answers .exit) ≡ set (now (answers .entry)) k v ⌝ }
+{
+    if k < answers.len() {
+        answers[k] = v;
     }
 }
 
@@ -35,7 +49,6 @@ fn play_all(
     answers: &mut [u64],
 ) -> Run
     requires { ⌜ plansRefusal (now t) (now plans) (now ends) ≡ 0 ⌝ }
-    requires { ⌜ length (now picks) ≤ length (now answers) ⌝ }
     ensures { λ r. ⌜ AllMean (now (t .entry)) (now (plans .entry)) (now (ends .entry)) (runOf run) (now (picks .entry))
         (now (answers .entry)) r (now (answers .exit)) ⌝ }
 {
@@ -44,15 +57,16 @@ fn play_all(
     while k < picks.len() {
         let p = run_pick::pick(t, plans, ends, current, picks[k] as usize);
         let a = p.answer;
-        answers[k] = number(a);
+        put(answers, k, number(a));
         current = p.run;
         k += 1;
     }
     current
 }
 
-// The operation, for every input: 14 where there are fewer answers than picks; then as a pick on the run up to 11.
-pub fn play(
+// The picks on any run, for every input: refused as a pick on the run up to 11. As many answers are
+// told as the slice holds.
+pub fn play_into(
     t: &[u64],
     plans: &[u16],
     ends: &[u64],
@@ -60,15 +74,10 @@ pub fn play(
     picks: &[u8],
     answers: &mut [u64],
 ) -> Played
-    ensures { λ r. ⌜ PlayMeans (now (t .entry)) (now (plans .entry)) (now (ends .entry)) (runOf run) (now (picks .entry))
-        (now (answers .entry)) r (now (answers .exit)) ⌝ }
+    ensures { λ r. ⌜ PlayMeans (now (t .entry)) (now (plans .entry)) (now (ends .entry))
+        (runRefusal (now (t .entry)) (now (plans .entry)) (now (ends .entry)) (runOf run))
+        (runOf run) (now (picks .entry)) (now (answers .entry)) r (now (answers .exit)) ⌝ }
 {
-    if answers.len() < picks.len() {
-        return Played {
-            refusal: 14,
-            run: run,
-        };
-    }
     let e = run_replay::refusal(t, plans, ends, run);
     if e != 0 {
         return Played {
@@ -81,4 +90,27 @@ pub fn play(
         refusal: 0,
         run: last,
     }
+}
+
+// The operation with the answer of each pick, for every input: first 14, where there are fewer
+// answers than picks.
+pub fn play(
+    t: &[u64],
+    plans: &[u16],
+    ends: &[u64],
+    run: Run,
+    picks: &[u8],
+    answers: &mut [u64],
+) -> Played
+    ensures { λ r. ⌜ PlayMeans (now (t .entry)) (now (plans .entry)) (now (ends .entry))
+        (playRefusal (now (t .entry)) (now (plans .entry)) (now (ends .entry)) (runOf run) (now (picks .entry)) (now (answers .entry)))
+        (runOf run) (now (picks .entry)) (now (answers .entry)) r (now (answers .exit)) ⌝ }
+{
+    if answers.len() < picks.len() {
+        return Played {
+            refusal: 14,
+            run: run,
+        };
+    }
+    play_into(t, plans, ends, run, picks, answers)
 }

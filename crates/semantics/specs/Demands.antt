@@ -10,7 +10,7 @@
 --   solo search             `soloSearch`         solo_search::solo_search
 --   joint replay            `jointReplay`        run_replay::joint_replay
 --   pick on a run           `pickOn`             run_replay::pick; the run lent: run_dispatch::pick, run_dispatch::once
---   picks on a run          `playOn`             run_dispatch::play
+--   picks on a run          `playOn`             run_dispatch::play; with the answers: run_play::play
 --   the dispatcher's start  `startOf`            run_dispatch::start
 --   verdict                 `VerdictMeans`       verdict::verdict; with `Demand3Answer`
 --   text reader             `readText`           text::read
@@ -30,8 +30,8 @@ use mathlib.Core.Path.{_≡_}
 use mathlib.Core.Bool.{Bool, true, false, not}
 use mathlib.Core.Logic.{_↔_, _⊎_}
 use mathlib.Core.List.{List, [], _∷_, _++_, map, flatten, List·Memᴰ}
-use Prim.Native.Nat.{ℕ, _+_, _≤_, _<_}
-use lib.ListN.{length, getD, set, take, drop}
+use Prim.Native.Nat.{ℕ, _≤_, _<_}
+use lib.ListN.{length, getD, take, drop}
 use lib.Dec.{eqb}
 use Rattle.semantics.specs.Base.{Answer, refused, gives}
 use Rattle.semantics.specs.Mask.{has, below}
@@ -41,7 +41,7 @@ use Rattle.semantics.specs.System.{System, Waits, result, system, waits,
 use Rattle.semantics.specs.Listing.{addAll}
 use Rattle.semantics.specs.Step.{Decision, stepRefusal, step}
 use Rattle.semantics.specs.Solo.{Solo, soloRefusal, soloReplay, soloNext, searchRefusal, soloSearch}
-use Rattle.semantics.specs.Run.{Run, mostMembers, Fault, Outcome, success, failure, still-open, isSuccess, isOpen, Replay, rest, start, outcome, play, beginning, planOf, plansOf, plansRefusal, jointReplay, passOver, startOf, pickOn, playOn}
+use Rattle.semantics.specs.Run.{Run, Fault, not-yet, isClosed, Reply, Replied, Outcome, success, failure, still-open, isSuccess, isOpen, Replay, rest, stepped, closedBy, passOver, start, outcome, play, beginning, planOf, plansOf, plansRefusal, jointReplay, startOf, pickOn, playOn}
 use Rattle.semantics.specs.Verdict.{Room, localRows, configurationRows, tooShort, Verdict, unsolvable, notRobust, robust, Finding, Failing, sameRow, localCopy, sharedCopy, startRow, moved, moves, faults, verdict, Slices, room, Conflict, liveFor, listedIn, listedFor}
 use Rattle.semantics.specs.Model.{FactSet, _⊆_, Setting, apply, Executes, Solution, World, Acts, Collides, Waiting, Execution, Deadlock, Success, Missed, GoesOn, begin, Robust}
 
@@ -128,7 +128,7 @@ pub record JointReplayAgrees (t plans ends : List ℕ) : Type 0 where
 pub record RunFits (t plans ends : List ℕ) (r : Run ℕ) : Type 0 where
   pub plans-fit : plansRefusal t plans ends ≡ 0
   pub shared-fits : below (facts t) (r .shared) ≡ true
-  pub places-fit : (j : ℕ) → j < members t → getD (r .places) j 0 ≤ length (planOf plans ends j)
+  pub places-fit : (j : ℕ) → j < members t → r .places j ≤ length (planOf plans ends j)
 
 -- the world that a run stands in
 abbrev pub worldAt : (t : List ℕ) → List (List ℕ) → Run ℕ → World (setting t)
@@ -137,28 +137,21 @@ worldAt t plans r = record { state = factsOf (r .shared); left = λ j. rest plan
 abbrev pub worldIn : (t plans ends : List ℕ) → Run ℕ → World (setting t)
 worldIn t plans bounds r = worldAt t (plansOf (members t) plans bounds) r
 
--- the run with the shared copy g and member i's place moved by one
-abbrev pub stepped : Run ℕ → ℕ → ℕ → Run ℕ
-stepped r i g = record { shared = g; places = set (r .places) i (getD (r .places) i 0 + 1); collided = false }
-
--- the run as it was, but closed
-abbrev pub closed : Run ℕ → Run ℕ
-closed r = record { shared = r .shared; places = r .places; collided = true }
-
 -- agent i waits or has ended
 abbrev pub Stays : (Π : Setting) → World Π → ℕ → Type 0
 Stays Π w i = Waiting Π w i ⊎ (w .left i ≡ [])
 
 -- Each answer of a pick, both ways: the run moves by just the one step that the scheduler's choice executes; a collision closes it and
--- changes nothing else; 8 for no agent; 13 for an agent that waits or has ended, and for every agent of a run that has collided.
+-- changes nothing else; 8 for no agent; 13 for an agent that waits or has ended, and for every agent of a run that is closed.
 pub record PickAgrees (t plans ends : List ℕ) (r : Run ℕ) (i : ℕ) : Type 0 where
   pub goes : (g : ℕ)
-      → (pickOn t plans ends r i ≡ gives (stepped r i g))
-      ↔ ((r .collided ≡ false) × Acts (setting t) (worldIn t plans ends r) i (worldIn t plans ends (stepped r i g)))
-  pub collides : (pickOn t plans ends r i ≡ gives (closed r)) ↔ ((r .collided ≡ false) × Collides (setting t) (worldIn t plans ends r) i)
+      → (pickOn t plans ends r i ≡ gives (record { reply = Reply.goes; run = stepped r i g }))
+      ↔ ((r .closed ≡ not-yet) × Acts (setting t) (worldIn t plans ends r) i (worldIn t plans ends (stepped r i g)))
+  pub collides : (pickOn t plans ends r i ≡ gives (record { reply = Reply.collides; run = closedBy r Fault.collision }))
+      ↔ ((r .closed ≡ not-yet) × Collides (setting t) (worldIn t plans ends r) i)
   pub nobody : (pickOn t plans ends r i ≡ refused 8) ↔ ¬ (i < members t)
   pub impossible : (pickOn t plans ends r i ≡ refused 13)
-      ↔ ((i < members t) × ((r .collided ≡ true) ⊎ Stays (setting t) (worldIn t plans ends r) i))
+      ↔ ((i < members t) × ((isClosed (r .closed) ≡ true) ⊎ Stays (setting t) (worldIn t plans ends r) i))
 
 -- ---- solo search
 
@@ -217,10 +210,9 @@ pub record Demand2 : Type 0 where
   pub stepAgrees : (t : List ℕ) (a g : ℕ) → stepRefusal t a g ≡ 0 → StepAgrees t a g
   pub soloReplayAgrees : (t : List ℕ) (i : ℕ) (plan : List ℕ) → soloRefusal t i plan ≡ 0 → SoloReplayAgrees t i plan
   pub jointReplayAgrees : (t plans ends : List ℕ) → JointReplayAgrees t plans ends
-  -- a run is handed in with a place for each member that a task can have
-  pub pickAgrees : (t plans ends : List ℕ) (r : Run ℕ) (i : ℕ) → length (r .places) ≡ mostMembers → RunFits t plans ends r
-      → PickAgrees t plans ends r i
-  pub pickAnswers : (t plans ends : List ℕ) (r r′ : Run ℕ) (i : ℕ) → pickOn t plans ends r i ≡ gives r′ → RunFits t plans ends r
+  pub pickAgrees : (t plans ends : List ℕ) (r : Run ℕ) (i : ℕ) → RunFits t plans ends r → PickAgrees t plans ends r i
+  pub pickAnswers : (t plans ends : List ℕ) (r : Run ℕ) (i : ℕ) (p : Replied ℕ) → pickOn t plans ends r i ≡ gives p
+      → RunFits t plans ends r
   pub soloSearchAgrees : (t : List ℕ) (i : ℕ) (table marks : List ℕ)
       → searchRefusal t i (length table) (length marks) ≡ 0 → SoloSearchAgrees t i table marks
 

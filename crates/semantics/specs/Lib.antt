@@ -10,3 +10,4 @@ pub mod System
 pub mod Task
 pub mod Text
 pub mod Verdict
+pub mod Words

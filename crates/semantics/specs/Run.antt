@@ -2,7 +2,7 @@
 use mathlib.Core.Bool.{Bool, true, false, cond, not, _&&_}
 use mathlib.Core.List.{List, [], _∷_, map}
 use Prim.Native.Nat.{ℕ, _+_}
-use lib.ListN.{length, getD, drop, set, replicate}
+use lib.ListN.{length, getD, drop}
 use lib.Seq.{slice}
 use lib.Dec.{eqb, ltb, leb}
 use Rattle.semantics.specs.Base.{upTo, anyOf, allOf, _if_, _else_, firstRefusal, Answer, refused, gives, unless}
@@ -12,26 +12,46 @@ use Rattle.semantics.specs.System.{System, Waits, system, waits}
 use Rattle.semantics.specs.Step.{Decision, routine}
 use Rattle.semantics.specs.Solo.{Solo, solves, breaks, short, soloFrom, entry}
 
--- a run, beside its plans: the shared copy, each member's place in its plan, and whether it has collided
-pub record Run (State : Type 0) : Type 0 where
-  pub shared : State
-  pub places : List ℕ
-  pub collided : Bool
-
--- the most members a task has: a run has so many places, and those past the task's members play no part
-abbrev pub mostMembers : ℕ
-mostMembers = 8
-
 -- how a run can fail; missed with the lowest member whose goal is missing
 pub data Fault : Type 0 where
   collision : Fault
   deadlock : Fault
   missed : ℕ → Fault
 
+-- what has closed a run
+pub data Closed : Type 0 where
+  not-yet : Closed
+  by : Fault → Closed
+
+abbrev pub isClosed : Closed → Bool
+isClosed not-yet = false
+isClosed (by f) = true
+
+-- a run, beside its plans: the shared copy, each member's place in its plan, and what has closed it
+pub record Run (State : Type 0) : Type 0 where
+  pub shared : State
+  pub places : ℕ → ℕ
+  pub closed : Closed
+
+-- what a pick that is not refused replies
+pub data Reply : Type 0 where
+  goes : Reply
+  collides : Reply
+
+-- its reply, and the run after it
+pub record Replied (State : Type 0) : Type 0 where
+  pub reply : Reply
+  pub run : Run State
+
 pub data Outcome : Type 0 where
   success : Outcome
   failure : Fault → Outcome
   still-open : Outcome
+
+-- a closed run failed by what closed it
+abbrev pub closing : Closed → Outcome → Outcome
+closing not-yet o = o
+closing (by f) o = failure f
 
 abbrev pub isSuccess : Outcome → Bool
 isSuccess success = true
@@ -46,31 +66,48 @@ isOpen still-open = true
 module _ {State : Type 0} where
   -- member j's remaining steps
   unfoldable pub rest : List (List ℕ) → Run State → ℕ → List ℕ
-  rest plans r j = drop (getD (r .places) j 0) (getD plans j [])
+  rest plans r j = drop (r .places j) (getD plans j [])
+
+  -- the run with the shared copy g and member j's place moved by one
+  abbrev pub stepped : Run State → ℕ → State → Run State
+  stepped r j g = record { shared = g; places = λ i. cond (eqb i j) (r .places i + 1) (r .places i); closed = not-yet }
+
+  -- the run as it was, but closed
+  abbrev pub closedBy : Run State → Fault → Run State
+  closedBy r f = record { shared = r .shared; places = r .places; closed = by f }
 
   -- what the routine's answer makes of the run; waiting is no possible pick
-  abbrev pub advance : Run State → ℕ → Decision State → Answer (Run State)
-  advance r j (Decision.go g) = gives (record { shared = g; places = set (r .places) j (getD (r .places) j 0 + 1); collided = false })
+  abbrev pub advance : Run State → ℕ → Decision State → Answer (Replied State)
+  advance r j (Decision.go g) = gives (record { reply = goes; run = stepped r j g })
   advance r j Decision.wait = refused 13
-  advance r j Decision.collision = gives (record { shared = r .shared; places = r .places; collided = true })
+  advance r j Decision.collision = gives (record { reply = collides; run = closedBy r collision })
 
-  abbrev pub given : Answer (Run State) → Bool
+  abbrev pub given : Answer (Replied State) → Bool
   given (refused k) = false
-  given (gives r) = true
+  given (gives p) = true
 
   -- an impossible pick is passed over and changes nothing
-  abbrev pub passOver : Run State → Answer (Run State) → Run State
+  abbrev pub passOver : Run State → Answer (Replied State) → Run State
   passOver r (refused k) = r
-  passOver r (gives s) = s
+  passOver r (gives p) = p .run
 
-  -- k picks done, and one more where it goes
-  abbrev pub tally : ℕ → Answer (Run State) → ℕ
-  tally k (refused e) = k
-  tally k (gives r) = cond (r .collided) k (k + 1)
+  -- the run after a pick, or the pick's refusal
+  abbrev pub runAfter : Answer (Replied State) → Answer (Run State)
+  runAfter (refused k) = refused k
+  runAfter (gives p) = gives (p .run)
+
+-- k picks done, and one more where it goes
+abbrev pub counted : ℕ → Reply → ℕ
+counted k goes = k + 1
+counted k collides = k
+
+abbrev pub tally : {State : Type 0} → ℕ → Answer (Replied State) → ℕ
+tally k (refused e) = k
+tally k (gives p) = counted k (p .reply)
 
 module _ (S : System) where
   unfoldable pub start : Run (S .State)
-  start = record { shared = S .init; places = replicate mostMembers 0; collided = false }
+  start = record { shared = S .init; places = λ j. 0; closed = not-yet }
 
   -- the lowest of the members whose goal is not within g, or success
   unfoldable pub missedIn : S .State → List ℕ → Outcome
@@ -86,13 +123,13 @@ pub record Replay (State : Type 0) : Type 0 where
 
 module _ (S : System) (waits : Waits S) (plans : List (List ℕ)) where
   -- a pick of member j with these steps left
-  unfoldable pub pickStep : Run (S .State) → ℕ → List ℕ → Answer (Run (S .State))
+  unfoldable pub pickStep : Run (S .State) → ℕ → List ℕ → Answer (Replied (S .State))
   pickStep r j [] = refused 13
   pickStep r j (a ∷ p) = advance r j (routine S waits a (r .shared))
 
-  -- a pick: the run after it, which has collided if the pick did; or 8 no member, 13 no possible pick
-  unfoldable pub pick : Run (S .State) → ℕ → Answer (Run (S .State))
-  pick r j = unless ((8 if not (ltb j (S .members))) else (13 if r .collided)) (pickStep r j (rest plans r j))
+  -- a pick: its reply and the run after it; or 8 no member, 13 no possible pick
+  unfoldable pub pick : Run (S .State) → ℕ → Answer (Replied (S .State))
+  pick r j = unless ((8 if not (ltb j (S .members))) else (13 if isClosed (r .closed))) (pickStep r j (rest plans r j))
 
   -- some member can be picked
   unfoldable pub pickable : Run (S .State) → Bool
@@ -102,11 +139,10 @@ module _ (S : System) (waits : Waits S) (plans : List (List ℕ)) where
   unfoldable pub stepsLeft : Run (S .State) → Bool
   stepsLeft r = anyOf (λ j. ltb 0 (length (rest plans r j))) (upTo (S .members))
 
-  -- a run is finished when it has collided or no member can be picked
+  -- a run is finished when it is closed or no member can be picked
   unfoldable pub outcome : Run (S .State) → Outcome
   outcome r =
-      cond (r .collided)
-      (failure collision)
+      closing (r .closed)
       (cond (pickable r) still-open (cond (stepsLeft r) (failure deadlock) (missedIn S (r .shared) (upTo (S .members)))))
 
   -- a list of picks, each meeting the run as the last one left it
@@ -119,7 +155,7 @@ module _ (S : System) (waits : Waits S) (plans : List (List ℕ)) where
   replayOn (refused e) k [] = refused e
   replayOn (refused e) k (j ∷ js) = refused e
   replayOn (gives r) k [] = gives (record { outcome = outcome r; shared = r .shared; picked = k })
-  replayOn (gives r) k (j ∷ js) = replayOn (pick r j) (tally k (pick r j)) js
+  replayOn (gives r) k (j ∷ js) = replayOn (runAfter (pick r j)) (tally k (pick r j)) js
 
   unfoldable pub replay : List ℕ → Answer (Replay (S .State))
   replay picks = replayOn (gives (start S)) 0 picks
@@ -173,7 +209,7 @@ startOf t = unless (check t) (gives (start (system t)))
 
 -- some member's place is past its plan's end
 abbrev pub pastEnd : List ℕ → List ℕ → List ℕ → Run ℕ → Bool
-pastEnd t plans ends r = anyOf (λ i. ltb (length (planOf plans ends i)) (getD (r .places) i 0)) (upTo (members t))
+pastEnd t plans ends r = anyOf (λ i. ltb (length (planOf plans ends i)) (r .places i)) (upTo (members t))
 
 -- the run's check, after the plans' check: 4 shared bits, 11 a place past its plan's end
 abbrev pub runRefusal : List ℕ → List ℕ → List ℕ → Run ℕ → ℕ
@@ -181,7 +217,7 @@ runRefusal t plans ends r =
     plansRefusal t plans ends else (4 if not (below (facts t) (r .shared))) else (11 if pastEnd t plans ends r)
 
 -- a pick on a run
-unfoldable pub pickOn : List ℕ → List ℕ → List ℕ → Run ℕ → ℕ → Answer (Run ℕ)
+unfoldable pub pickOn : List ℕ → List ℕ → List ℕ → Run ℕ → ℕ → Answer (Replied ℕ)
 pickOn t plans ends r j =
     unless (runRefusal t plans ends r) (pick (system t) (waits t) (plansOf (members t) plans ends) r j)
 

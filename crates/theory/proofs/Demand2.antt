@@ -13,6 +13,6 @@ demand2 =
       soloReplayAgrees = solo-replay-agrees;
       jointReplayAgrees = joint-replay-agrees;
       pickAgrees = pick-agrees;
-      pickAnswers = λ t plans ends r r′ i. pick-fits t plans ends r i r′;
+      pickAnswers = pick-fits;
       soloSearchAgrees = solo-search-agrees;
     }

@@ -2,24 +2,22 @@
 -- on it is not refused for what it holds; the public pick, done for each pick of a list, makes the runs of demand 3.
 -- Assumes nothing.
 use mathlib.Core.Path.{_≡_, refl, sym, ap, subst, _∙_}
-use mathlib.Core.Bool.{Bool, true, false}
-use mathlib.Core.Logic.{_⊎_, inl, inr, ⊎-elim}
+use mathlib.Core.Bool.{cond}
+use mathlib.Core.Logic.{_⊎_, inl, inr}
 use mathlib.Core.List.{List, [], _∷_, flatten}
-use Prim.Native.Nat.{ℕ, _+_, _≤_, _<_}
+use Prim.Native.Nat.{ℕ, _+_, _≤_, _<_, zero-le}
 use native.Mathlib.Omega.{arith}
 use native.Mathlib.Decide.{ℕ-discrete}
-use lib.ListN.{length, getD, set, getD-replicate, length-map}
-use lib.Seq.{getD-set-same, getD-set-other, set-out}
-use lib.Dec.{ltb}
-use borrow.Author.Tests.{ltb-false, le-ltb}
+use lib.ListN.{length, length-map}
+use lib.Dec.{eqb}
+use borrow.Author.Tests.{eq-eqb, ne-eqb}
 use Rattle.semantics.specs.Base.{upTo, Answer, refused, gives}
-use Rattle.semantics.specs.Mask.{below}
 use Rattle.semantics.specs.Task.{check, members, facts, add, del}
 use Rattle.semantics.specs.System.{system, waits, Solves, Choice}
-use Rattle.semantics.specs.Run.{Run, mostMembers, rest, passOver, start, pick, play, planOf, plansOf, plansRefusal}
-use Rattle.semantics.specs.Run.{pastEnd, pickOn, playOn}
-use Rattle.semantics.specs.Demands.{pickEach, InSlices, madeRun, PickedRuns, Dispatcher}
-use Rattle.theory.proofs.Lists.{lt-or-ge, any-false, false-any, upTo-mem, mem-upTo, upTo-length, getD-upTo}
+use Rattle.semantics.specs.Run.{Run, Replied, rest, passOver, start, pick, play, planOf, plansOf, plansRefusal}
+use Rattle.semantics.specs.Run.{pickOn, playOn}
+use Rattle.semantics.specs.Demands.{RunFits, pickEach, InSlices, madeRun, PickedRuns, Dispatcher}
+use Rattle.theory.proofs.Lists.{upTo-length, getD-upTo}
 use Rattle.theory.proofs.Refusals.{refused-gives}
 use Rattle.theory.proofs.Attempts.{result-after}
 use Rattle.theory.proofs.Masks.{after-below}
@@ -29,16 +27,13 @@ use Rattle.theory.proofs.Picks.{Picked, nobody, closed, over, goes, col
 use Rattle.theory.proofs.Picks as Picks
 use Rattle.theory.proofs.Agrees.Solo.{solution-leads}
 use Rattle.theory.proofs.Agrees.Joint.{joint-replay-agrees}
-
-pub record Fit (t plans ends : List ℕ) (r : Run ℕ) : Type 0 where
-  pub shared-fits : below (facts t) (r .shared) ≡ true
-  pub places-fit : pastEnd t plans ends r ≡ false
+use Rattle.theory.proofs.Agrees.Pick.{fits-passes, fits-pick}
 
 module _ (t plans ends : List ℕ) where
   abbrev P : List (List ℕ)
   P = plansOf (members t) plans ends
 
-  abbrev pickP : Run ℕ → ℕ → Answer (Run ℕ)
+  abbrev pickP : Run ℕ → ℕ → Answer (Replied ℕ)
   pickP r j = pick (system t) (waits t) P r j
 
   abbrev playP : Run ℕ → List ℕ → Run ℕ
@@ -48,90 +43,71 @@ module _ (t plans ends : List ℕ) where
   steps i = length (planOf plans ends i)
 
   abbrev place : Run ℕ → ℕ → ℕ
-  place r i = getD (r .places) i 0
+  place r i = r .places i
 
-  abbrev isPast : Run ℕ → ℕ → Bool
-  isPast r i = ltb (steps i) (place r i)
+  -- on a run that fits, a list of picks is the picks themselves
+  pub fits-list : (r : Run ℕ) → RunFits t plans ends r → (js : List ℕ) → playOn t plans ends r js ≡ gives (playP r js)
+  unfolding playOn
+  fits-list r f js = rw (fits-passes t plans ends r f)
 
-  place-fits : (r : Run ℕ) → Fit t plans ends r → (i : ℕ) → i < members t → place r i ≤ steps i
-  place-fits r f i h = ltb-false (steps i) (place r i) (any-false (isPast r) (f .places-fit) (mem-upTo h))
-
-  fits : (r : Run ℕ) → below (facts t) (r .shared) ≡ true → ((i : ℕ) → i < members t → place r i ≤ steps i)
-      → Fit t plans ends r
-  fits r b p =
+  pub start-fits : plansRefusal t plans ends ≡ 0 → RunFits t plans ends (start (system t))
+  unfolding start
+  start-fits ok =
+      let a = accepted t (checked-task t plans ends ok) in
       record {
-        shared-fits = b;
-        places-fit =
-            false-any (isPast r) (upTo (members t))
-            (λ i m. le-ltb (steps i) (place r i) (p i (upTo-mem (members t) m)));
+        plans-fit = ok;
+        shared-fits = a .initial-below;
+        places-fit = λ i h. zero-le;
       }
 
-  module _ (ok : plansRefusal t plans ends ≡ 0) where
-    -- a pick on such a run is the pick itself, and so is a list of picks
-    pub fit-pick : (r : Run ℕ) → Fit t plans ends r → (j : ℕ) → pickOn t plans ends r j ≡ pickP r j
-    unfolding pickOn
-    fit-pick r f j = rw (ok, f .shared-fits, f .places-fit)
+  pub fits-keeps : (r : Run ℕ) → RunFits t plans ends r → (j : ℕ) → RunFits t plans ends (passOver r (pickP r j))
+  fits-keeps r f j = at (picked (system t) (waits t) P r j)
+    where
+      moved : (a : ℕ) (p : List ℕ) → j < members t → rest P r j ≡ a ∷ p
+          → (i : ℕ) → i < members t → cond (eqb i j) (place r i + 1) (place r i) ≤ steps i
+      moved a p h e i l = which (ℕ-discrete i j)
+        where
+          room : place r j < steps j
+          room = omega (arith, rest-length (members t) plans ends r j h, ap length e)
 
-    pub fit-list : (r : Run ℕ) → Fit t plans ends r → (js : List ℕ) → playOn t plans ends r js ≡ gives (playP r js)
-    unfolding playOn
-    fit-list r f js = rw (ok, f .shared-fits, f .places-fit)
+          which : Dec (i ≡ j) → cond (eqb i j) (place r i + 1) (place r i) ≤ steps i
+          which (no ne) = rw (ne-eqb i j ne) (f .places-fit i l)
+          which (yes q) = rw (eq-eqb i j q) (subst (λ (x : ℕ). place r x + 1 ≤ steps x) (sym q) (omega (arith, room)))
 
-    pub fit-start : Fit t plans ends (start (system t))
-    unfolding start
-    fit-start =
-        let a = accepted t (checked-task t plans ends ok) in
-        fits (start (system t)) (a .initial-below)
-        (λ i h. let e = getD-replicate {A = ℕ} mostMembers i 0 0 (omega (arith, a .few-members)) in omega (arith, e))
+      at : {x : Answer (Replied ℕ)} → Picked (system t) (waits t) P r j x → RunFits t plans ends (passOver r x)
+      at (nobody h) = f
+      at (closed h c) = f
+      at (over h c e) = f
+      at (Picks.waits h c e w) = f
+      at (goes {a = a} {p = p} h c e w b) =
+          let s = accepted t (checked-task t plans ends (f .plans-fit)) .action-fits a in
+          record {
+            plans-fit = f .plans-fit;
+            shared-fits =
+                rw (result-after t a (r .shared) b)
+                (after-below (facts t) (r .shared) (add t a) (del t a) (f .shared-fits) (s .add-below));
+            places-fit = moved a p h e;
+          }
+      at (collides h c e w b) =
+          record { plans-fit = f .plans-fit; shared-fits = f .shared-fits; places-fit = f .places-fit }
 
-    pub fit-keeps : (r : Run ℕ) → Fit t plans ends r → (j : ℕ) → Fit t plans ends (passOver r (pickP r j))
-    fit-keeps r f j = at (picked (system t) (waits t) P r j)
-      where
-        next : ℕ
-        next = place r j + 1
+  -- picks done by the public pick are the model's picks, and leave a run that fits
+  pub fits-each : (r : Run ℕ) → RunFits t plans ends r → (js : List ℕ) → pickEach t plans ends r js ≡ playP r js
+  unfolding pickEach play
+  fits-each r f [] = refl
+  fits-each r f (j ∷ js) =
+      rw (fits-pick t plans ends r j f) (fits-each (passOver r (pickP r j)) (fits-keeps r f j) js)
 
-        moved : (a : ℕ) (p : List ℕ) → j < members t → rest P r j ≡ a ∷ p
-            → (i : ℕ) → i < members t → getD (set (r .places) j next) i 0 ≤ steps i
-        moved a p h e i l = which (ℕ-discrete i j)
-          where
-            room : place r j < steps j
-            room = omega (arith, rest-length (members t) plans ends r j h, ap length e)
-
-            which : Dec (i ≡ j) → getD (set (r .places) j next) i 0 ≤ steps i
-            which (no ne) = rw (getD-set-other (r .places) j i next 0 ne) (place-fits r f i l)
-            which (yes q) =
-                rw q
-                (⊎-elim
-                (λ (s : j < length (r .places)). rw (getD-set-same (r .places) j next 0 s) (omega (arith, room)))
-                (λ (s : length (r .places) ≤ j). rw (set-out (r .places) j next s) (omega (arith, room)))
-                (lt-or-ge j (length (r .places))))
-
-        at : {x : Answer (Run ℕ)} → Picked (system t) (waits t) P r j x → Fit t plans ends (passOver r x)
-        at (nobody h) = f
-        at (closed h c) = f
-        at (over h c e) = f
-        at (Picks.waits h c e w) = f
-        at (goes {a = a} {p = p} h c e w b) =
-            let s = accepted t (checked-task t plans ends ok) .action-fits a in
-            let fit = after-below (facts t) (r .shared) (add t a) (del t a) (f .shared-fits) (s .add-below) in
-            rw (result-after t a (r .shared) b) (fits _ fit (moved a p h e))
-        at (collides h c e w b) = fits _ (f .shared-fits) (λ i l. place-fits r f i l)
-
-    -- picks done by the public pick are the model's picks, and leave a run that fits
-    pub fit-each : (r : Run ℕ) → Fit t plans ends r → (js : List ℕ) → pickEach t plans ends r js ≡ playP r js
-    unfolding pickEach play
-    fit-each r f [] = refl
-    fit-each r f (j ∷ js) = rw (fit-pick r f j) (fit-each (passOver r (pickP r j)) (fit-keeps r f j) js)
-
-    pub fit-play : (r : Run ℕ) → Fit t plans ends r → (js : List ℕ) → Fit t plans ends (playP r js)
-    unfolding play
-    fit-play r f [] = f
-    fit-play r f (j ∷ js) = fit-play (passOver r (pickP r j)) (fit-keeps r f j) js
+  pub fits-play : (r : Run ℕ) → RunFits t plans ends r → (js : List ℕ) → RunFits t plans ends (playP r js)
+  unfolding play
+  fits-play r f [] = f
+  fits-play r f (j ∷ js) = fits-play (passOver r (pickP r j)) (fits-keeps r f j) js
 
   -- a pick is refused with 8 or 13
   pub pick-refusals : (r : Run ℕ) (j k : ℕ) → pickP r j ≡ refused k → (k ≡ 8) ⊎ (k ≡ 13)
   pick-refusals r j k e = at (picked (system t) (waits t) P r j) e
     where
-      at : {x : Answer (Run ℕ)} → Picked (system t) (waits t) P r j x → x ≡ refused k → (k ≡ 8) ⊎ (k ≡ 13)
+      at : {x : Answer (Replied ℕ)} → Picked (system t) (waits t) P r j x → x ≡ refused k → (k ≡ 8) ⊎ (k ≡ 13)
       at (nobody h) e = inl (cc)
       at (closed h c) e = inr (cc)
       at (over h c q) e = inr (cc)
@@ -144,13 +120,13 @@ module _ (t plans ends : List ℕ) where
   pub picked-runs : (c : Choice (system t)) → InSlices t plans ends c → PickedRuns t plans ends c
   picked-runs c (ok, e) =
       record {
-        each = λ picks. fit-each ok (start (system t)) (fit-start ok) picks ∙ made picks;
+        each = λ picks. fits-each (start (system t)) (start-fits ok) picks ∙ made picks;
         impossible = λ picks j k q.
             pick-refusals (playP (start (system t)) picks) j k
-            (sym (fit-pick ok (playP (start (system t)) picks) (fit-play ok (start (system t)) (fit-start ok) picks) j)
+            (sym (fits-pick t plans ends (playP (start (system t)) picks) j (fits-play (start (system t)) (start-fits ok) picks))
             ∙ ap (λ (r : Run ℕ). pickOn t plans ends r j) (made picks)
             ∙ q);
-        atOnce = λ picks. fit-list ok (start (system t)) (fit-start ok) picks ∙ ap gives (made picks);
+        atOnce = λ picks. fits-list (start (system t)) (start-fits ok) picks ∙ ap gives (made picks);
       }
     where
       made : (picks : List ℕ) → playP (start (system t)) picks ≡ madeRun t c picks

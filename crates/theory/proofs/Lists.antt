@@ -237,3 +237,16 @@ unfolding flatten
 mem-flatten {A = A} f {y = y} {xs = x ∷ xs} (List·Memᴰ·head e) m =
     Memᴰ·append-left (flatten (map f xs)) (subst (λ (z : A). List·Memᴰ y (f z)) e m)
 mem-flatten {A = A} f {xs = x ∷ xs} (List·Memᴰ·tail n) m = Memᴰ·append-right (f x) (mem-flatten f n m)
+
+-- ---- entries
+
+-- an entry within the list does not depend on the default
+pub getD-any : {A : Type 0} (xs : List A) (k : ℕ) (d e : A) → k < length xs → getD xs k d ≡ getD xs k e
+getD-any [] k d e l = absurd (not-suc-le-zero l)
+getD-any (x ∷ xs) zero d e l = refl
+getD-any (x ∷ xs) (suc k) d e l = getD-any xs k d e (le-of-suc-le-suc l)
+
+pub getD-map : {A B : Type 0} (f : A → B) (xs : List A) (k : ℕ) (d : A) (e : B) → k < length xs → getD (map f xs) k e ≡ f (getD xs k d)
+getD-map f [] k d e l = absurd (not-suc-le-zero l)
+getD-map f (x ∷ xs) zero d e l = refl
+getD-map f (x ∷ xs) (suc k) d e l = getD-map f xs k d e (le-of-suc-le-suc l)

@@ -2,16 +2,21 @@
 use mathlib.Core.Path.{_≡_, refl, sym, ap, _∙_}
 use mathlib.Core.Bool.{Bool, true, false, cond, not}
 use mathlib.Core.List.{List, [], _∷_}
-use Prim.Native.Nat.{ℕ, _+_, _≤_, _<_}
-use lib.ListN.{length, getD, drop, set}
-use lib.Seq.{getD-set-same, getD-set-other, drop-drop}
+use Prim.Native.Nat.{ℕ, _≤_, _<_}
+use lib.ListN.{getD, drop}
+use lib.Seq.{drop-drop}
 use lib.Dec.{ltb}
-use borrow.Author.Tests.{ltb-true, ltb-false}
+use borrow.Author.Tests.{ltb-true, ltb-false, eq-eqb, ne-eqb}
 use Rattle.semantics.specs.Base.{_if_, _else_, Answer, refused, unless}
 use Rattle.semantics.specs.System.{System, Waits, tried, able, result}
 use Rattle.semantics.specs.Step.{Decision, routine}
-use Rattle.semantics.specs.Run.{Run, rest, advance, pickStep, pick}
+use Rattle.semantics.specs.Run.{Run, Closed, not-yet, by, isClosed, Replied, rest, stepped, advance, pickStep, pick}
 use Rattle.theory.proofs.Attempts.{able-goes, unable-lacks}
+use Rattle.theory.proofs.Lists.{true-not-false}
+
+-- a run that is closed is not open
+pub closed-open : {c : Closed} → isClosed c ≡ true → c ≡ not-yet → ⊥
+closed-open e f = true-not-false e (ap isClosed f)
 
 -- the routine's answers
 pub data Decided (S : System) (W : Waits S) (a : ℕ) (g : S .State) : Decision (S .State) → Type 0 where
@@ -31,56 +36,51 @@ decided S W a g = at (W a g) refl (able S a g) refl
 
 module _ (S : System) (W : Waits S) (plans : List (List ℕ)) where
   -- a pick's answers
-  pub data Picked (r : Run (S .State)) (j : ℕ) : Answer (Run (S .State)) → Type 0 where
+  pub data Picked (r : Run (S .State)) (j : ℕ) : Answer (Replied (S .State)) → Type 0 where
     nobody : S .members ≤ j → Picked r j (refused 8)
-    closed : j < S .members → r .collided ≡ true → Picked r j (refused 13)
-    over : j < S .members → r .collided ≡ false → rest plans r j ≡ [] → Picked r j (refused 13)
-    waits : {a : ℕ} {p : List ℕ} → j < S .members → r .collided ≡ false → rest plans r j ≡ a ∷ p → W a (r .shared) ≡ true
+    closed : j < S .members → isClosed (r .closed) ≡ true → Picked r j (refused 13)
+    over : j < S .members → r .closed ≡ not-yet → rest plans r j ≡ [] → Picked r j (refused 13)
+    waits : {a : ℕ} {p : List ℕ} → j < S .members → r .closed ≡ not-yet → rest plans r j ≡ a ∷ p → W a (r .shared) ≡ true
         → Picked r j (refused 13)
-    goes : {a : ℕ} {p : List ℕ} → j < S .members → r .collided ≡ false → rest plans r j ≡ a ∷ p → W a (r .shared) ≡ false
+    goes : {a : ℕ} {p : List ℕ} → j < S .members → r .closed ≡ not-yet → rest plans r j ≡ a ∷ p → W a (r .shared) ≡ false
         → able S a (r .shared) ≡ true → Picked r j (advance r j (Decision.go (result S a (r .shared))))
-    collides : {a : ℕ} {p : List ℕ} → j < S .members → r .collided ≡ false → rest plans r j ≡ a ∷ p → W a (r .shared) ≡ false
+    collides : {a : ℕ} {p : List ℕ} → j < S .members → r .closed ≡ not-yet → rest plans r j ≡ a ∷ p → W a (r .shared) ≡ false
         → able S a (r .shared) ≡ false → Picked r j (advance r j Decision.collision)
 
   pub picked : (r : Run (S .State)) (j : ℕ) → Picked r j (pick S W plans r j)
   unfolding pick pickStep
   picked r j = who (ltb j (S .members)) refl
     where
-      decision : (a : ℕ) (p : List ℕ) → j < S .members → r .collided ≡ false → rest plans r j ≡ a ∷ p
+      decision : (a : ℕ) (p : List ℕ) → j < S .members → r .closed ≡ not-yet → rest plans r j ≡ a ∷ p
           → (d : Decision (S .State)) → Decided S W a (r .shared) d → Picked r j (advance r j d)
       decision a p h c e d (Decided.waits w) = waits h c e w
       decision a p h c e d (Decided.goes w b) = goes h c e w b
       decision a p h c e d (Decided.collides w b) = collides h c e w b
 
-      step : (p : List ℕ) → j < S .members → r .collided ≡ false → rest plans r j ≡ p → Picked r j (pickStep S W plans r j p)
+      step : (p : List ℕ) → j < S .members → r .closed ≡ not-yet → rest plans r j ≡ p → Picked r j (pickStep S W plans r j p)
       step [] h c e = over h c e
       step (a ∷ p) h c e = decision a p h c e (routine S W a (r .shared)) (decided S W a (r .shared))
 
-      still : (b : Bool) → j < S .members → r .collided ≡ b → Picked r j (unless (0 else (13 if b)) (pickStep S W plans r j (rest plans r j)))
-      still true h c = closed h c
-      still false h c = step (rest plans r j) h c refl
+      still : (b : Closed) → j < S .members → r .closed ≡ b
+          → Picked r j (unless (0 else (13 if isClosed b)) (pickStep S W plans r j (rest plans r j)))
+      still (by f) h c = closed h (ap isClosed c)
+      still not-yet h c = step (rest plans r j) h c refl
 
       who : (b : Bool) → ltb j (S .members) ≡ b
-          → Picked r j (unless ((8 if not b) else (13 if r .collided)) (pickStep S W plans r j (rest plans r j)))
-      who true e = still (r .collided) (ltb-true j (S .members) e) refl
+          → Picked r j (unless ((8 if not b) else (13 if isClosed (r .closed))) (pickStep S W plans r j (rest plans r j)))
+      who true e = still (r .closed) (ltb-true j (S .members) e) refl
       who false e = nobody (ltb-false j (S .members) e)
 
 -- ---- the run after a pick that goes
 
 module _ {State : Type 0} (plans : List (List ℕ)) (r : Run State) where
-  abbrev pub gone : ℕ → State → Run State
-  gone j g = record { shared = g; places = set (r .places) j (getD (r .places) j 0 + 1); collided = false }
-
   -- the member picked has one step less
-  pub rest-picked : (j : ℕ) (g : State) {a : ℕ} {p : List ℕ} → j < length (r .places) → rest plans r j ≡ a ∷ p → rest plans (gone j g) j ≡ p
+  pub rest-picked : (j : ℕ) (g : State) {a : ℕ} {p : List ℕ} → rest plans r j ≡ a ∷ p → rest plans (stepped r j g) j ≡ p
   unfolding rest
-  rest-picked j g {a} {p} h e =
-      ap (λ (k : ℕ). drop k (getD plans j [])) (getD-set-same (r .places) j (getD (r .places) j 0 + 1) 0 h)
-      ∙ sym (drop-drop 1 (getD (r .places) j 0) (getD plans j []))
-      ∙ ap (drop 1) e
+  rest-picked j g {a} {p} e =
+      rw (eq-eqb j j refl) (sym (drop-drop 1 (r .places j) (getD plans j []))) ∙ ap (drop 1) e
 
   -- the others have what they had
-  pub rest-others : (j : ℕ) (g : State) (i : ℕ) → (i ≡ j → ⊥) → rest plans (gone j g) i ≡ rest plans r i
+  pub rest-others : (j : ℕ) (g : State) (i : ℕ) → (i ≡ j → ⊥) → rest plans (stepped r j g) i ≡ rest plans r i
   unfolding rest
-  rest-others j g i ne =
-      ap (λ (k : ℕ). drop k (getD plans i [])) (getD-set-other (r .places) j i (getD (r .places) j 0 + 1) 0 ne)
+  rest-others j g i ne = rw (ne-eqb i j ne)

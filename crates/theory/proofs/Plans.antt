@@ -119,9 +119,9 @@ checked-task t plans ends h = else-both (check t) _ h .0
 
 -- what is left of member j's plan in a run
 module _ (n : ℕ) (plans ends : List ℕ) (r : Run ℕ) (j : ℕ) (h : j < n) where
-  pub rest-is : rest (plansOf n plans ends) r j ≡ drop (getD (r .places) j 0) (planOf plans ends j)
+  pub rest-is : rest (plansOf n plans ends) r j ≡ drop (r .places j) (planOf plans ends j)
   unfolding rest
-  rest-is = ap (drop (getD (r .places) j 0)) (getD-upTo (planOf plans ends) n j [] h)
+  rest-is = ap (drop (r .places j)) (getD-upTo (planOf plans ends) n j [] h)
 
-  pub rest-length : length (rest (plansOf n plans ends) r j) ≡ length (planOf plans ends j) - getD (r .places) j 0
-  rest-length = ap length rest-is ∙ length-drop (getD (r .places) j 0) (planOf plans ends j)
+  pub rest-length : length (rest (plansOf n plans ends) r j) ≡ length (planOf plans ends j) - r .places j
+  rest-length = ap length rest-is ∙ length-drop (r .places j) (planOf plans ends j)

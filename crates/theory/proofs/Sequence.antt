@@ -5,8 +5,9 @@ use Prim.Native.Nat.{ℕ}
 use Rattle.semantics.specs.Base.{Answer, refused, gives}
 use Rattle.semantics.specs.Task.{members}
 use Rattle.semantics.specs.System.{System, Waits, system, waits}
-use Rattle.semantics.specs.Run.{Run, passOver, tally, pick, play, replayOn, plansOf, plansRefusal, playOn}
-use Rattle.theory.proofs.Dispatch.{Fit, fit-list, fit-play}
+use Rattle.semantics.specs.Run.{Run, passOver, runAfter, tally, pick, play, replayOn, plansOf, playOn}
+use Rattle.semantics.specs.Demands.{RunFits}
+use Rattle.theory.proofs.Dispatch.{fits-list, fits-play}
 
 module _ (S : System) (W : Waits S) (plans : List (List ℕ)) where
   pub play-append : (r : Run (S .State)) (xs ys : List ℕ) → play S W plans r (xs ++ ys) ≡ play S W plans (play S W plans r xs) ys
@@ -19,13 +20,13 @@ module _ (S : System) (W : Waits S) (plans : List (List ℕ)) where
   after (refused e) [] = refused e
   after (refused e) (j ∷ xs) = refused e
   after (gives r) [] = gives r
-  after (gives r) (j ∷ xs) = after (pick S W plans r j) xs
+  after (gives r) (j ∷ xs) = after (runAfter (pick S W plans r j)) xs
 
   pub count : Answer (Run (S .State)) → ℕ → List ℕ → ℕ
   count (refused e) k [] = k
   count (refused e) k (j ∷ xs) = k
   count (gives r) k [] = k
-  count (gives r) k (j ∷ xs) = count (pick S W plans r j) (tally k (pick S W plans r j)) xs
+  count (gives r) k (j ∷ xs) = count (runAfter (pick S W plans r j)) (tally k (pick S W plans r j)) xs
 
   pub replay-append : (a : Answer (Run (S .State))) (k : ℕ) (xs ys : List ℕ)
       → replayOn S W plans a k (xs ++ ys) ≡ replayOn S W plans (after a xs) (count a k xs) ys
@@ -34,15 +35,15 @@ module _ (S : System) (W : Waits S) (plans : List (List ℕ)) where
   replay-append (refused e) k (j ∷ xs) [] = refl
   replay-append (refused e) k (j ∷ xs) (i ∷ ys) = refl
   replay-append (gives r) k [] ys = refl
-  replay-append (gives r) k (j ∷ xs) ys = replay-append (pick S W plans r j) (tally k (pick S W plans r j)) xs ys
+  replay-append (gives r) k (j ∷ xs) ys = replay-append (runAfter (pick S W plans r j)) (tally k (pick S W plans r j)) xs ys
 
 -- the dispatcher's list of picks, on a run that is not refused
-module _ (t plans ends : List ℕ) (ok : plansRefusal t plans ends ≡ 0) (r : Run ℕ) (f : Fit t plans ends r) where
+module _ (t plans ends : List ℕ) (r : Run ℕ) (f : RunFits t plans ends r) where
   abbrev played : List ℕ → Run ℕ
   played xs = play (system t) (waits t) (plansOf (members t) plans ends) r xs
 
   pub playOn-append : (xs ys : List ℕ) → playOn t plans ends r (xs ++ ys) ≡ playOn t plans ends (played xs) ys
   playOn-append xs ys =
-      fit-list t plans ends ok r f (xs ++ ys)
+      fits-list t plans ends r f (xs ++ ys)
       ∙ ap gives (play-append (system t) (waits t) (plansOf (members t) plans ends) r xs ys)
-      ∙ sym (fit-list t plans ends ok (played xs) (fit-play t plans ends ok r f xs) ys)
+      ∙ sym (fits-list t plans ends (played xs) (fits-play t plans ends r f xs) ys)

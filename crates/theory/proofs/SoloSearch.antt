@@ -6,7 +6,6 @@ use mathlib.Core.Logic.{_↔_, ⊎-elim, Iff·trans}
 use mathlib.Core.List.{List, [], _∷_, _++_, map}
 use mathlib.Core.List.{List·Memᴰ}
 use Prim.Native.Nat.{ℕ, zero, suc, _-_, _≤_, _<_}
-use native.Mathlib.Nat.{not-suc-le-zero, le-of-suc-le-suc}
 use native.Mathlib.Omega.{arith}
 use lib.ListN.{length, getD, take, replicate, length-map, List·getD-append}
 use lib.Seq.{take-append-seam}
@@ -21,7 +20,7 @@ use Rattle.semantics.specs.Listing.{mem, Reach, here, step}
 use Rattle.semantics.specs.Solo.{soloNext, copies, liveOf, marksOf, Searched, SoloSearch, searchRefusal, soloSearch}
 use Rattle.semantics.specs.Model.{FactSet, _⊆_, apply, Executes, Solution, none, then}
 use Rattle.semantics.specs.Demands.{factsOf, setting, Reachable, Completable, Solvable, Distinct, Lists, Exceed, Breadth, SearchedRows, SoloSearchAgrees}
-use Rattle.theory.proofs.Lists.{lt-or-ge, mem-getD, test-ext}
+use Rattle.theory.proofs.Lists.{getD-map, lt-or-ge, mem-getD, test-ext}
 use Rattle.theory.proofs.Refusals.{else-both, refused-gives, gives-inj}
 use Rattle.theory.proofs.Masks.{sub-within}
 use Rattle.theory.proofs.Accepted.{accepted-lawful}
@@ -77,11 +76,6 @@ module _ (t : List ℕ) (i : ℕ) where
       (λ l. let h = leads-iff t i s (l .0) .0 (l .1) in (l .0, h .0, h .1, h .2), λ c. (c .0, leads-iff t i s (c .0) .1 (c .1, c .2, c .3)))
 
 -- ---- what the search answers
-
-getD-map : {A B : Type 0} (f : A → B) (xs : List A) (k : ℕ) (d : A) (e : B) → k < length xs → getD (map f xs) k e ≡ f (getD xs k d)
-getD-map f [] k d e l = absurd (not-suc-le-zero l)
-getD-map f (x ∷ xs) zero d e l = refl
-getD-map f (x ∷ xs) (suc k) d e l = getD-map f xs k d e (le-of-suc-le-suc l)
 
 if-one : (b : Bool) → (1 if b ≡ 1) ↔ (b ≡ true)
 if-one true = (λ h. refl, λ h. refl)

@@ -2,10 +2,15 @@
 // answer.
 ghost use Prim.Native.Nat.{_≤_};
 ghost use lib.ListN.{length};
+use fault::Failing;
+use fault::Fault;
+use fault::Verdict;
 use mask::Shared;
 use run_pick::Answer;
+use run_pick::Closed;
 use run_pick::Outcome;
 use run_pick::Replayed;
+use run_pick::Reply;
 use run_pick::Run;
 use solo_replay::Replayed as Solved;
 use solo_replay::Solo;
@@ -236,9 +241,11 @@ fn show_search(law: u64, t: &[u64], member: u8, table: &mut [u64], marks: &mut [
 fn show_outcome(outcome: Outcome) {
     match outcome {
         Outcome::Success => say(b" success"),
-        Outcome::Collision => say(b" collision"),
-        Outcome::Deadlock => say(b" deadlock"),
-        Outcome::Missed(j) => say_number(b" missed", j as u64),
+        Outcome::Failure(f) => match f {
+            Fault::Collision => say(b" collision"),
+            Fault::Deadlock => say(b" deadlock"),
+            Fault::Missed(j) => say_number(b" missed", j as u64),
+        },
         Outcome::Open => say(b" open"),
     }
 }
@@ -260,8 +267,10 @@ fn show_replay(law: u64, t: &[u64], plans: &[u16], ends: &[u64], picks: &[u8]) {
 
 fn show_answer_of(a: Answer) {
     match a {
-        Answer::Go => say(b" go"),
-        Answer::Collision => say(b" collision"),
+        Answer::Gives(r) => match r {
+            Reply::Go => say(b" go"),
+            Reply::Collision => say(b" collision"),
+        },
         Answer::Refused(k) => say_number(b" refused", k),
     }
 }
@@ -273,8 +282,10 @@ fn show_run(run: Run) {
     let p = run.places;
     say_number(b", places", p[0]);
     number(p[1]);
-    if run.collided {
-        say(b", collided")
+    let c = run.closed;
+    match c {
+        Closed::NotYet => {}
+        Closed::By(_) => say(b", collided"),
     }
     end();
 }
@@ -332,33 +343,50 @@ fn show_pick(law: u64, t: &[u64], plans: &[u16], ends: &[u64], member: u8) {
     let start = Run {
         shared: Shared(mask::of_word(1)),
         places: [0; 8],
-        collided: false,
+        closed: Closed::NotYet,
     };
     let p = run_replay::pick(t, plans, ends, start, member);
     let answer = p.answer;
     match answer {
         Answer::Refused(k) => refused(k),
-        Answer::Collision => say(b" collision\n"),
-        Answer::Go => {
-            let after = p.run;
-            let g = after.shared;
-            line(b" go", mask::to_word(g.0));
+        Answer::Gives(r) => match r {
+            Reply::Collision => say(b" collision\n"),
+            Reply::Go => {
+                let after = p.run;
+                let g = after.shared;
+                line(b" go", mask::to_word(g.0));
+            }
+        },
+    }
+}
+
+// The kind of a fault, its member, the picks done before it.
+fn show_failing(f: Failing) {
+    let fault = f.fault;
+    let done = f.picked as u64;
+    match fault {
+        Fault::Collision => say_number(b" collision", done),
+        Fault::Deadlock => say_number(b" deadlock", done),
+        Fault::Missed(i) => {
+            say_number(b" missed", i as u64);
+            say_number(b" after", done);
         }
     }
 }
 
 // The kind and number of a verdict.
+fn show_given(v: Verdict) {
+    match v {
+        Verdict::Unsolvable(i) => say_number(b" unsolvable", i as u64),
+        Verdict::NotRobust(f) => show_failing(f),
+        Verdict::Robust(count) => say_number(b" robust", count as u64),
+    }
+}
+
 fn show_answer(v: VerdictAnswer) {
     match v {
         VerdictAnswer::Refused(k) => say_number(b" refused", k),
-        VerdictAnswer::Unsolvable(i) => say_number(b" unsolvable", i as u64),
-        VerdictAnswer::Collision(k) => say_number(b" collision", k as u64),
-        VerdictAnswer::Deadlock(k) => say_number(b" deadlock", k as u64),
-        VerdictAnswer::Missed(i, k) => {
-            say_number(b" missed", i as u64);
-            say_number(b" after", k as u64);
-        }
-        VerdictAnswer::Robust(count) => say_number(b" robust", count as u64),
+        VerdictAnswer::Gives(g) => show_given(g),
     }
 }
 

@@ -1,6 +1,6 @@
--- `capi::lawcheck_pick` meets its contract. Assumes nothing.
-use Rattle.capi.proofs.Calls.{pick-run, pick-short, pick-refused, pick-goes, pick-collides}
+-- `capi::lawcheck_pick` meets its contract: one law for each way out. Assumes nothing.
 use borrow.Author.Needs.{needs}
+use Rattle.capi.proofs.Calls.{pick-run, pick-short, pick-refused, pick-given}
 use Rattle.capi.proofs.lawcheck_pick.Statement.{statement}
 use Rattle.capi.proofs.lawcheck_pick.Tie as tie
 
@@ -20,66 +20,23 @@ run-of-requires c κs = search needs
 once-requires : tie.Need-once-requires
 once-requires c κs = search needs
 
-enum-told : tie.Need-enum-told
-enum-told c = search needs
+enum-known-a : tie.Need-enum-known-a
+enum-known-a c = search needs
+
+enum-known-a-2 : tie.Need-enum-known-a-2
+enum-known-a-2 c = search needs
+
+reply-number-requires : tie.Need-reply-number-requires
+reply-number-requires c κs = search needs
 
 done-requires : tie.Need-done-requires
 done-requires c κs = search needs
 
-enum-told-2 : tie.Need-enum-told-2
-enum-told-2 c = search needs
-
-done-requires-2 : tie.Need-done-requires-2
-done-requires-2 c κs = search needs
-
-enum-known-a : tie.Need-enum-known-a
-enum-known-a c = search needs
-
 same-length : tie.Need-same-length
 same-length c = search needs
 
-same-length-2 : tie.Need-same-length-2
-same-length-2 c = search needs
-
 returns-3 : tie.Need-returns-3
 returns-3 c =
-    let d = c .before .before .before .before in
-    let m = d .before .before .before in
-    let p = m .before .before .before in
-    let r = p .before in
-    let e₂ = r .before .before in
-    let e₁ = e₂ .before in
-    let a = e₁ .before .before .before .before .before .before .args in
-    pick-goes (a .t .now) (a .plans .now) (a .ends .now) (a .run .now) (a .out .now) (a .member)
-    (e₁ .if1 .left) (e₂ .if2 .left) (r .run-of .result) (r .run-of .ensures) (p .once .result) (p .once .ensures)
-    (d .done .result) (d .done .last .1 .1 .0) (d .done .last .0) (d .done .ensures .1) (m .enum-told .given .1)
-    (d .done .ensures .0)
-
-same-length-3 : tie.Need-same-length-3
-same-length-3 c = search needs
-
-same-length-4 : tie.Need-same-length-4
-same-length-4 c = search needs
-
-returns-4 : tie.Need-returns-4
-returns-4 c =
-    let d = c .before .before .before .before in
-    let m = d .before .before .before in
-    let p = m .before .before .before in
-    let r = p .before in
-    let e₂ = r .before .before in
-    let e₁ = e₂ .before in
-    let a = e₁ .before .before .before .before .before .before .args in
-    pick-collides (a .t .now) (a .plans .now) (a .ends .now) (a .run .now) (a .out .now) (a .member)
-    (e₁ .if1 .left) (e₂ .if2 .left) (r .run-of .result) (r .run-of .ensures) (p .once .result) (p .once .ensures)
-    (d .done2 .result) (d .done2 .last .1 .1 .0) (d .done2 .last .0) (d .done2 .ensures .1) (m .enum-told2 .given .1)
-    (d .done2 .ensures .0)
-
-same-length-5 : tie.Need-same-length-5
-same-length-5 c = search needs
-
-returns-5 : tie.Need-returns-5
-returns-5 c =
     let p = c .before .before .before .before in
     let r = p .before in
     let e₂ = r .before .before in
@@ -89,6 +46,27 @@ returns-5 c =
     (e₁ .if1 .left) (e₂ .if2 .left) (r .run-of .result) (r .run-of .ensures) (p .once .result) (p .once .ensures)
     (c .before .a .given .0 .0) (c .before .a .given .1)
 
+same-length-2 : tie.Need-same-length-2
+same-length-2 c = search needs
+
+same-length-3 : tie.Need-same-length-3
+same-length-3 c = search needs
+
+returns-4 : tie.Need-returns-4
+returns-4 c =
+    let d = c .before .before .before .before in
+    let n = d .before .before .before in
+    let m = n .before .before in
+    let p = m .before .before .before in
+    let r = p .before in
+    let e₂ = r .before .before in
+    let e₁ = e₂ .before in
+    let a = e₁ .before .before .before .before .before .before .args in
+    pick-given (a .t .now) (a .plans .now) (a .ends .now) (a .run .now) (a .out .now) (a .member)
+    (e₁ .if1 .left) (e₂ .if2 .left) (r .run-of .result) (r .run-of .ensures) (p .once .result) (p .once .ensures)
+    (m .a2 .given .0 .0) (m .a2 .given .1) (n .reply-number .result) (n .reply-number .ensures)
+    (d .done .result) (d .done .last .1 .1 .0) (d .done .last .0) (d .done .ensures .0) (d .done .ensures .1)
+
 pub lawcheck-pick-spec : {M : Type 1} → statement M
 lawcheck-pick-spec =
     tie.close
@@ -97,16 +75,12 @@ lawcheck-pick-spec =
     returns-2
     run-of-requires
     once-requires
-    enum-told
-    done-requires
-    enum-told-2
-    done-requires-2
     enum-known-a
+    enum-known-a-2
+    reply-number-requires
+    done-requires
     same-length
-    same-length-2
     returns-3
+    same-length-2
     same-length-3
-    same-length-4
-    returns-4
-    same-length-5
-    returns-5)
+    returns-4)

@@ -1,11 +1,14 @@
--- `capi_numbers::replay_numbers` meets its contract. Assumes nothing.
-use Rattle.capi_numbers.proofs.Told.{success, collision, deadlock, missed, still-open}
+-- `capi_numbers::replay_numbers` meets its contract: one law for each outcome. Assumes nothing.
 use borrow.Author.Needs.{needs}
+use Rattle.capi_numbers.proofs.Told.{success, collision, deadlock, missed, still-open}
 use Rattle.capi_numbers.proofs.replay_numbers.Statement.{statement}
 use Rattle.capi_numbers.proofs.replay_numbers.Tie as tie
 
 enum-told : tie.Need-enum-told
 enum-told c = search needs
+
+enum-known-o : tie.Need-enum-known-o
+enum-known-o c = search needs
 
 enum-told-2 : tie.Need-enum-told-2
 enum-told-2 c = search needs
@@ -13,8 +16,8 @@ enum-told-2 c = search needs
 enum-told-3 : tie.Need-enum-told-3
 enum-told-3 c = search needs
 
-enum-known-o : tie.Need-enum-known-o
-enum-known-o c = search needs
+enum-known-f : tie.Need-enum-known-f
+enum-known-f c = search needs
 
 enum-told-4 : tie.Need-enum-told-4
 enum-told-4 c = search needs
@@ -39,9 +42,10 @@ replay-numbers-spec =
     tie.close
     (tie.spec
     enum-told
+    enum-known-o
     enum-told-2
     enum-told-3
-    enum-known-o
+    enum-known-f
     enum-told-4
     returns
     returns-2

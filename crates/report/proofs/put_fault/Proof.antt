@@ -1,43 +1,93 @@
 -- `report::put_fault` meets its contract. Assumes nothing.
-use mathlib.Core.Path.{sym}
-use native.Mathlib.Omega.{arith}
-use lib.Seq.{length-take-le}
+use Rattle.report.proofs.Faults.{room-collision, room-deadlock, room-missed, line-collision, line-deadlock, line-missed}
+use Rattle.semantics.specs.Base.{numbersFrom}
+use Rattle.report.specs.File.{word}
 use borrow.Author.Needs.{needs}
-use Rattle.theory.proofs.Laid.{laid-append}
-use Rattle.report.proofs.Laws.{line-short, line-room}
 use Rattle.report.proofs.put_fault.Statement.{statement}
 use Rattle.report.proofs.put_fault.Tie as tie
 
+enum-told : tie.Need-enum-told
+enum-told c = search needs
+
+slice-aggregate-put-line : tie.Need-slice-aggregate-put-line
+slice-aggregate-put-line c = search needs
+
 put-line-requires : tie.Need-put-line-requires
-put-line-requires c κs =
-    let s = c .before .before .before .before .before .before in
-    let a = s .args in
-    line-room (a .out .now) (a .at) (a .name .now) (a .v) (s .pre .1 .1 .0) (s .fits .v .fits) (omega arith)
+unfolding word numbersFrom
+put-line-requires c κs = search (needs, room-collision)
 
-slice-aggregate-put-conflict : tie.Need-slice-aggregate-put-conflict
-slice-aggregate-put-conflict c =
-    let s = c .before .before .before .before .before .before .before .before .before .before .before in
-    sym (length-take-le (s .args .count) (s .args .picks .now) (s .pre .1 .0))
+enum-told-2 : tie.Need-enum-told-2
+enum-told-2 c = search needs
 
-put-conflict-requires : tie.Need-put-conflict-requires
-put-conflict-requires c κs =
-    let s = c .before .before .before .before .before .before .before .before .before .before .before in
-    (s .pre .0, omega (arith, line-short (s .args .name .now) (s .args .v) (s .pre .1 .1 .0) (s .fits .v .fits), s .pre .1 .1 .1))
+slice-aggregate-put-line-2 : tie.Need-slice-aggregate-put-line-2
+slice-aggregate-put-line-2 c = search needs
+
+put-line-requires-2 : tie.Need-put-line-requires-2
+unfolding word numbersFrom
+put-line-requires-2 c κs = search (needs, room-deadlock)
+
+enum-known-fault : tie.Need-enum-known-fault
+enum-known-fault c = search needs
+
+slice-aggregate-put-line-3 : tie.Need-slice-aggregate-put-line-3
+slice-aggregate-put-line-3 c = search needs
+
+put-line-requires-3 : tie.Need-put-line-requires-3
+unfolding word numbersFrom
+put-line-requires-3 c κs = search (needs, room-missed)
 
 same-length : tie.Need-same-length
 same-length c = search needs
 
 returns : tie.Need-returns
+unfolding word numbersFrom
 returns c =
-    let g = c .before .before in
-    laid-append (g .before .before .before .before .before .put-line .ensures) (g .put-conflict .ensures)
+    let p = c .before .before in
+    let k = p .before .before .before in
+    let s = k .before .before .before in
+    line-collision (s .args .f) (s .args .out .now) (s .args .at) (p .put-line .last .0) (p .put-line .result)
+    (k .enum-told .given .1) (search needs) (p .put-line .ensures)
+
+same-length-2 : tie.Need-same-length-2
+same-length-2 c = search needs
+
+returns-2 : tie.Need-returns-2
+unfolding word numbersFrom
+returns-2 c =
+    let p = c .before .before in
+    let k = p .before .before .before in
+    let s = k .before .before .before in
+    line-deadlock (s .args .f) (s .args .out .now) (s .args .at) (p .put-line2 .last .0) (p .put-line2 .result)
+    (k .enum-told2 .given .1) (search needs) (p .put-line2 .ensures)
+
+same-length-3 : tie.Need-same-length-3
+same-length-3 c = search needs
+
+returns-3 : tie.Need-returns-3
+unfolding word numbersFrom
+returns-3 c =
+    let p = c .before .before in
+    let k = p .before .before .before in
+    let s = k .before .before .before .before in
+    line-missed (s .args .f) (s .args .out .now) (s .args .at) (p .put-line3 .last .0) (p .put-line3 .result)
+    (k .before .fault .given .0 .0) (k .before .fault .given .1) (search needs) (p .put-line3 .ensures)
 
 pub put-fault-spec : {M : Type 1} → statement M
 put-fault-spec =
     tie.close
     (tie.spec
+    enum-told
+    slice-aggregate-put-line
     put-line-requires
-    slice-aggregate-put-conflict
-    put-conflict-requires
+    enum-told-2
+    slice-aggregate-put-line-2
+    put-line-requires-2
+    enum-known-fault
+    slice-aggregate-put-line-3
+    put-line-requires-3
     same-length
-    returns)
+    returns
+    same-length-2
+    returns-2
+    same-length-3
+    returns-3)

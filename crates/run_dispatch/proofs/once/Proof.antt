@@ -37,7 +37,7 @@ use denote.Triple.Table.{entered, cited}
 use denote.Triple.Walked.{says, Stays, stay-none, stay-none-slice, walkOf, AllGo, goes-none, goes-none-slice, Walks, ends-at, walked, walk-meets}
 use denote.Exit.{yes}
 use Rattle.semantics.specs.Run.{pickOn}
-use Rattle.run_pick.specs.Value.{runOf}
+use Rattle.run_pick.specs.Value.{runOf, PickMeans}
 use Rattle.run_pick.specs.declared.Run.{Run}
 use Rattle.run_pick.specs.declared.Picked.{Picked}
 use Rattle.run_pick.proofs.Run as T
@@ -46,9 +46,8 @@ use Rattle.run_pick.proofs.Picked as P
 use Rattle.run_pick.proofs.Picked.Laws as P′
 use Rattle.run_pick.proofs.Answer as N
 use Rattle.run_pick.proofs.Answer.Laws as N′
-use Rattle.run_dispatch.proofs.Laws.{picked-means}
 use Rattle.run_dispatch.proofs.Machine.{mach, Cell, sliced, Task, Plans, Ends}
-use Rattle.run_dispatch.proofs.Lent.{found, Pick, to, Aside, passed, lends-pick, takes-back}
+use Rattle.run_dispatch.proofs.Lent.{Pick, to, Aside, Met, passed, lends-pick, takes-back}
 use Rattle.run_dispatch.proofs.pick.Symbol as pick-def
 use Rattle.run_dispatch.proofs.pick.Symbol.{name as #dispatch·pick}
 use Rattle.run_dispatch.proofs.pick.Met as pick-thm
@@ -82,38 +81,36 @@ module _ {M : Type 1} (𝓤 : URA M) (H : Heap 𝓤) (A : Atoms 𝓤) (W : Given
   abbrev Post : Val → SProp 𝓤
   Post = walkOf 𝓤 H A f.ended stayed (f.clauses 𝓤 H A at-mem run) .post bound
 
-  abbrev after : Picked
-  after = found s₀ s₁ s₂ h n
-
   -- the machine values of the answer and of what is returned
-  abbrev ans : Val
-  ans = EL.val N.the-type N′.the-laws (after .answer)
+  abbrev ans : Picked → Val
+  ans p = EL.val N.the-type N′.the-laws (p .answer)
 
-  abbrev ret : Val
-  ret = LL.val P.the-type P′.the-laws after
+  abbrev ret : Picked → Val
+  ret p = LL.val P.the-type P′.the-laws p
 
-  abbrev Fits : Val → Type 0
-  Fits v = Is N.the-row (after .answer) (v ∷ []) × Is T.the-row (after .run) (mach (after .run) ∷ [])
+  is-ret : (p : Picked) → Is N.the-row (p .answer) (ans p ∷ []) → Is T.the-row (p .run) (mach (p .run) ∷ []) → Is P.the-row p (ret p ∷ [])
+  is-ret p ia ir = LL.owes P.the-type P′.the-laws p (ia, (ir, tt))
 
-  is-ret : Is N.the-row (after .answer) (ans ∷ []) → Is T.the-row (after .run) (mach (after .run) ∷ []) → Is P.the-row after (ret ∷ [])
-  is-ret ia ir = LL.owes P.the-type P′.the-laws after (ia, (ir, tt))
-
-  is-after : (v : Val) → Fits v → Is P.the-row after (ret ∷ [])
-  is-after v is = is-ret (subst (λ (vs : List Val). Is N.the-row (after .answer) vs) (EL.tells N.the-type N′.the-laws (after .answer) (v ∷ []) (is .0)) (is .0)) (is .1)
+  is-after : (v : Val) (p : Picked) → Met s₀ s₁ s₂ h n v p → Is P.the-row p (ret p ∷ [])
+  is-after v p is =
+      is-ret p
+      (subst (λ (vs : List Val). Is N.the-row (p .answer) vs) (EL.tells N.the-type N′.the-laws (p .answer) (v ∷ []) (is .1)) (is .1))
+      (is .2)
 
   abbrev left : List (Item 𝓤)
   left = ‵ (flft κ₀ q₀) ∷ ‵ (flft κ₁ q₁) ∷ ‵ (flft κ₂ q₂) ∷ ‵ (Task κ₀ s₀) ∷ ‵ (Plans κ₁ s₁) ∷ ‵ (Ends κ₂ s₂) ∷ []
 
-  exits : Is P.the-row after (ret ∷ []) → ent 𝓤 (⋆ 𝓤 H A left) (Post ret)
-  exits is =
+  exits : (p : Picked) → PickMeans (pickOn (now s₀) (now s₁) (now s₂) (runOf h) n) h p → Is P.the-row p (ret p ∷ [])
+      → ent 𝓤 (⋆ 𝓤 H A left) (Post (ret p))
+  exits p meant is =
       qed W left ∵
-      suffices ! _ (ends-at 𝓤 H A f.ended stayed (f.clauses 𝓤 H A at-mem run) W bound ret after (tt, (tt, (tt, (tt, (tt, tt))))) (tt, (tt, (tt, (tt, (tt, tt)))))) $
-      says ! (picked-means (pickOn (now s₀) (now s₁) (now s₂) (runOf h) n) h) $
+      suffices ! _ (ends-at 𝓤 H A f.ended stayed (f.clauses 𝓤 H A at-mem run) W bound (ret p) p (tt, (tt, (tt, (tt, (tt, tt))))) (tt, (tt, (tt, (tt, (tt, tt)))))) $
+      says ! meant $
       nothing ! $ move ! (3 ∷ 0 ∷ []) $ join ! $ move ! (2 ∷ 0 ∷ []) $ join ! $ move ! (1 ∷ 0 ∷ []) $ join ! $ frame ! $
       -- [what the slices own]
       nothing ! $ owned ! u8 (Is u8) (uint-makes 𝓤 H A W w8) n _ (refl, fits) $ fjoin ! $ owned ! T.the-row (Is T.the-row) (LL.makes T.the-type T′.the-plain 𝓤 H A) h _ was $ fjoin ! $
       move ! (3 ∷ 0 ∷ []) $ fjoin ! $ move ! (2 ∷ 0 ∷ []) $ fjoin ! $ move ! (1 ∷ 0 ∷ []) $ fjoin ! $
-      owned ! P.the-row (Is P.the-row) (LL.makes P.the-type P′.the-plain 𝓤 H A) after _ is $ move ! (1 ∷ 0 ∷ []) $ done !
+      owned ! P.the-row (Is P.the-row) (LL.makes P.the-type P′.the-plain 𝓤 H A) p _ is $ move ! (1 ∷ 0 ∷ []) $ done !
 
   module _ (C : Calls 𝓤 H) (Λ : Loops 𝓤 H) (fm : FmC 𝓤 H (W .laws) C) (known : Triple 𝓤 (C #dispatch·pick) (Pick 𝓤 H A at-mem run)) where
     walk : Is (ShrSlice (named 0) κ₀ u64) s₀ (sliced s₀ ∷ []) → Is (ShrSlice (named 1) κ₁ u16) s₁ (sliced s₁ ∷ []) → Is (ShrSlice (named 2) κ₂ u64) s₂ (sliced s₂ ∷ [])
@@ -140,17 +137,17 @@ module _ {M : Type 1} (𝓤 : URA M) (H : Heap 𝓤) (A : Atoms 𝓤) (W : Given
         -- [what `pick` asks; the lender's part; _9; …; _7; …; …; _5; …; _1; …; room for _0; …; what the slices own]
         calls-at ! fm (Pick 𝓤 H A at-mem run) known (to 𝓤 H A at-mem run κ₀ κ₁ κ₂ q₀ q₁ q₂ s₀ s₁ s₂ l₆ h n α δ)
         (and-then ! (load ! (from ! (stop !)) (look ! 17 refl)) (and-then ! (load ! (from ! (stop !)) (look ! 15 refl)) (and-then ! (load ! (from ! (stop !)) (look ! 13 refl)) (and-then ! (load ! (from ! (stop !)) (look ! 4 refl)) (and-then ! (load ! (from ! (stop !)) (look ! 9 refl)) (no-more !)))))) (λ v.
-        use2 W (later (given (Fits v) (‵ (Cell l₆ (after .run)) ⊛ ‵ (flft κ₀ q₀) ⊛ ‵ (flft κ₁ q₁) ⊛ ‵ (flft κ₂ q₂)))) (takes-back 𝓤 H A at-mem run κ₀ κ₁ κ₂ q₀ q₁ q₂ s₀ s₁ s₂ l₆ h n W α δ v) $ await ! tt $ learn ! (λ is.
+        use2 W (later (some (λ (p : Picked). given (Met s₀ s₁ s₂ h n v p) (‵ (Cell l₆ (p .run)) ⊛ ‵ (flft κ₀ q₀) ⊛ ‵ (flft κ₁ q₁) ⊛ ‵ (flft κ₂ q₂))))) (takes-back 𝓤 H A at-mem run κ₀ κ₁ κ₂ q₀ q₁ q₂ s₀ s₁ s₂ l₆ h n W α δ v) $ await ! tt $ pick ! (λ p. learn ! (λ is.
         split ! $ move ! (1 ∷ []) $ split ! $ move ! (1 ∷ []) $ split ! $ move ! (3 ∷ 2 ∷ 0 ∷ 1 ∷ []) $
         -- [the local; the slices' tokens; _9; …; _8; …; room for _7; …; …; _5; …; _1; …; room for _0; …; what the slices own]
-        land ! (from ! (stop !)) (init ! 8 refl (EL.lawful N.the-type N′.the-laws 𝓤 H A W tt .typed (after .answer) _ (is .0) .0)) $
-        rewrite ! 8 (λ (w : Val). ‵ (fat fullShare N′.mir l₇ 0 w)) (ap only (EL.tells N.the-type N′.the-laws (after .answer) _ (is .0))) refl $
-        assigns ! (of-opd ! (load ! (from ! (stop !)) (look ! 0 refl))) (from ! (stop !)) (init ! 4 refl (LL.lawful T.the-type T′.the-laws 𝓤 H A W .typed (after .run) _ (is .1) .0)) $
-        assigns ! (agg ! (and-then ! (load ! (from ! (stop !)) (look ! 8 refl)) (and-then ! (load ! (from ! (stop !)) (look ! 4 refl)) (no-more !)))) (from ! (stop !)) (init ! 21 refl (LL.lawful P.the-type P′.the-laws 𝓤 H A W .typed after _ (is-after v is) .0)) $
+        land ! (from ! (stop !)) (init ! 8 refl (EL.lawful N.the-type N′.the-laws 𝓤 H A W tt .typed (p .answer) _ (is .1) .0)) $
+        rewrite ! 8 (λ (w : Val). ‵ (fat fullShare N′.mir l₇ 0 w)) (ap only (EL.tells N.the-type N′.the-laws (p .answer) _ (is .1))) refl $
+        assigns ! (of-opd ! (load ! (from ! (stop !)) (look ! 0 refl))) (from ! (stop !)) (init ! 4 refl (LL.lawful T.the-type T′.the-laws 𝓤 H A W .typed (p .run) _ (is .2) .0)) $
+        assigns ! (agg ! (and-then ! (load ! (from ! (stop !)) (look ! 8 refl)) (and-then ! (load ! (from ! (stop !)) (look ! 4 refl)) (no-more !)))) (from ! (stop !)) (init ! 21 refl (LL.lawful P.the-type P′.the-laws 𝓤 H A W .typed p _ (is-after v p is) .0)) $
         returns ! (look ! 21 refl) $ forget ! 0 refl $ forget ! 4 refl $ forget ! 6 refl $ forget ! 8 refl $ forget ! 11 refl $ forget ! 13 refl $ forget ! 15 refl $ forget ! 17 refl $ forget ! 19 refl $ forget ! 21 refl $
         move ! (21 ∷ 22 ∷ []) $ free1 ! $ move ! (19 ∷ 20 ∷ []) $ free1 ! $ move ! (17 ∷ 18 ∷ []) $ free1 ! $ move ! (15 ∷ 16 ∷ []) $ free1 ! $ move ! (13 ∷ 14 ∷ []) $ free1 ! $ move ! (11 ∷ 12 ∷ []) $ free1 ! $
         move ! (0 ∷ 10 ∷ []) $ free1 ! $ move ! (7 ∷ 8 ∷ []) $ free1 ! $ move ! (5 ∷ 6 ∷ []) $ free1 ! $ move ! (3 ∷ 4 ∷ []) $ free1 ! $ free0 ! $
-        by ! (exits (is-after v is))))))))))))))))
+        by ! (exits p (is .0) (is-after v p is)))))))))))))))))
 
 module _ {M : Type 1} (𝓤 : URA M) (H : Heap 𝓤) (A : Atoms 𝓤) (W : Given 𝓤 H A) (at-mem : Memory → SProp 𝓤) (run : Routine → Fun 𝓤) where
   once-walks : (C : Calls 𝓤 H) (Λ : Loops 𝓤 H) → FmC 𝓤 H (W .laws) C → Triple 𝓤 (C #dispatch·pick) (Pick 𝓤 H A at-mem run) → Walks 𝓤 H A f.ended stayed (WpFn 𝓤 H C Λ code.function) (f.clauses 𝓤 H A at-mem run)

@@ -1,21 +1,17 @@
--- `run_dispatch::play` meets its contract: one law for each way out. Assumes nothing.
+-- `run_dispatch::play` meets its contract. Assumes nothing.
 use borrow.Author.Needs.{needs}
-use Rattle.run_replay.proofs.Laws.{plans-there}
-use Rattle.run_dispatch.proofs.Laws.{play-refused, play-given}
+use Rattle.run_dispatch.proofs.Laws.{play-means}
 use Rattle.run_dispatch.proofs.play.Statement.{statement}
 use Rattle.run_dispatch.proofs.play.Tie as tie
 
-refusal-requires : tie.Need-refusal-requires
-refusal-requires c κs = search needs
+slice-aggregate-play-into : tie.Need-slice-aggregate-play-into
+slice-aggregate-play-into c = search needs
+
+play-into-requires : tie.Need-play-into-requires
+play-into-requires c κs = search needs
 
 returns : tie.Need-returns
-returns c = search play-refused
-
-play-all-requires : tie.Need-play-all-requires
-play-all-requires c κs = search plans-there
-
-returns-2 : tie.Need-returns-2
-returns-2 c = search play-given
+returns c = search play-means
 
 pub play-spec : {M : Type 1} → statement M
-play-spec = tie.close (tie.spec refusal-requires returns play-all-requires returns-2)
+play-spec = tie.close (tie.spec slice-aggregate-play-into play-into-requires returns)

@@ -1,12 +1,18 @@
 -- `run_pick::outcome_of` meets its contract: one law for each way out. Assumes nothing.
 use borrow.Author.Needs.{needs}
 use Rattle.theory.proofs.Plans.{checked-task}
-use Rattle.run_pick.proofs.Laws.{out-collided, out-open, out-deadlock, out-rest}
+use Rattle.run_pick.proofs.Laws.{out-closed, out-open, out-deadlock, out-rest}
 use Rattle.run_pick.proofs.outcome_of.Statement.{statement}
 use Rattle.run_pick.proofs.outcome_of.Tie as tie
 
+enum-known-c : tie.Need-enum-known-c
+enum-known-c c = search needs
+
 returns : tie.Need-returns
-returns c = search out-collided
+returns c = search out-closed
+
+enum-told : tie.Need-enum-told
+enum-told c = search needs
 
 pickable-requires : tie.Need-pickable-requires
 pickable-requires c κs = search needs
@@ -30,7 +36,9 @@ pub outcome-of-spec : {M : Type 1} → statement M
 outcome-of-spec =
     tie.close
     (tie.spec
+    enum-known-c
     returns
+    enum-told
     pickable-requires
     returns-2
     steps-left-requires

@@ -1,6 +1,6 @@
 -- `run_pick::possible` meets its contract: one law for each answer. Assumes nothing.
 use borrow.Author.Needs.{needs}
-use Rattle.run_pick.proofs.Laws.{can-go, can-collide, cannot}
+use Rattle.run_pick.proofs.Laws.{can-pick, cannot-pick}
 use Rattle.run_pick.proofs.possible.Statement.{statement}
 use Rattle.run_pick.proofs.possible.Tie as tie
 
@@ -13,19 +13,11 @@ enum-told c = search needs
 enum-told-2 : tie.Need-enum-told-2
 enum-told-2 c = search needs
 
-enum-told-3 : tie.Need-enum-told-3
-enum-told-3 c = search needs
-
 returns : tie.Need-returns
-returns c = search can-go
+returns c = search cannot-pick
 
 returns-2 : tie.Need-returns-2
-returns-2 c = search can-collide
-
-returns-3 : tie.Need-returns-3
-returns-3 c = search cannot
+returns-2 c = search can-pick
 
 pub possible-spec : {M : Type 1} → statement M
-possible-spec =
-    tie.close
-    (tie.spec pick-requires enum-told enum-told-2 enum-told-3 returns returns-2 returns-3)
+possible-spec = tie.close (tie.spec pick-requires enum-told enum-told-2 returns returns-2)

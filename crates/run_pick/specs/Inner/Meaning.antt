@@ -5,13 +5,13 @@ use Prim.Native.Nat.{ℕ}
 use Rattle.semantics.specs.Base.{Answer}
 use Rattle.semantics.specs.Task.{members}
 use Rattle.semantics.specs.System.{system, waits}
-use Rattle.semantics.specs.Run.{Run, Outcome, Replay, plansOf, pick, pickable, stepsLeft, outcome, replayOn, replay}
+use Rattle.semantics.specs.Run.{Run, Replied, Outcome, Replay, plansOf, pick, pickable, stepsLeft, outcome, replayOn, replay}
 
 module _ (t plans ends : List ℕ) where
   abbrev pub plansIn : List (List ℕ)
   plansIn = plansOf (members t) plans ends
 
-  abbrev pub pickIn : Run ℕ → ℕ → Answer (Run ℕ)
+  abbrev pub pickIn : Run ℕ → ℕ → Answer (Replied ℕ)
   pickIn r j = pick (system t) (waits t) plansIn r j
 
   abbrev pub pickableIn : Run ℕ → Bool

@@ -3,7 +3,7 @@ use borrow.Author.Needs.{needs}
 use Prim.Native.Nat.{_-_}
 use native.Mathlib.Omega.{arith}
 use lib.ListN.{length}
-use Rattle.run_play.proofs.Laws.{Playing, playing-starts, playing-room, playing-picks, playing-ends}
+use Rattle.run_play.proofs.Laws.{Playing, playing-starts, playing-picks, playing-ends}
 use Rattle.run_play.proofs.play_all.Statement.{statement}
 use Rattle.run_play.proofs.play_all.Tie as tie
 
@@ -28,11 +28,8 @@ pick-requires c κs = search needs
 number-requires : tie.Need-number-requires Inv-loop μ-loop
 number-requires c κs = search needs
 
-mul-answers : tie.Need-mul-answers Inv-loop μ-loop
-mul-answers c = search needs
-
-slice-write-answers : tie.Need-slice-write-answers Inv-loop μ-loop
-slice-write-answers c = search playing-room
+put-requires : tie.Need-put-requires Inv-loop μ-loop
+put-requires c κs = search needs
 
 add-k : tie.Need-add-k Inv-loop μ-loop
 add-k c = search needs
@@ -60,8 +57,7 @@ play-all-spec =
     cast-pick
     pick-requires
     number-requires
-    mul-answers
-    slice-write-answers
+    put-requires
     add-k
     loop-less
     loop-again

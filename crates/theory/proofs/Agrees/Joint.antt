@@ -1,23 +1,23 @@
 -- Joint replay agrees with the model: the picks lead to a world, with its outcome; or all but the last, which collides.
-use mathlib.Core.Path.{_≡_, refl, sym, ap, subst, _∙_, fun-ext}
-use mathlib.Core.Bool.{Bool, true, false, not, cond, false≢true}
+use mathlib.Core.Path.{_≡_, refl, sym, ap, subst, _∙_}
+use mathlib.Core.Bool.{Bool, true, false, not, false≢true}
 use mathlib.Core.Logic.{_⊎_, inl, inr, ⊎-elim, _↔_}
 use mathlib.Core.List.{List, [], _∷_, _++_}
-use Prim.Native.Nat.{ℕ, zero, suc, _+_, _≤_}
+use Prim.Native.Nat.{ℕ, suc, _+_}
 use native.Mathlib.Omega.{arith}
 use lib.Dec.{eqb, ltb, leb}
-use lib.ListN.{length, getD, drop, replicate}
+use lib.ListN.{length, getD}
 use borrow.Author.Tests.{eqb-true, eq-eqb, leb-true, le-leb}
 use Rattle.semantics.specs.Base.{Answer, refused, gives, unless, upTo, _if_, firstRefusal}
 use Rattle.semantics.specs.Task as Task
 use Rattle.semantics.specs.Task.{check}
 use Rattle.semantics.specs.System.{system, waits}
 use Rattle.semantics.specs.Solo.{Solo, solves, soloFrom, entry}
-use Rattle.semantics.specs.Run.{Run, mostMembers, Fault, Outcome, failure, Replay, rest, tally, pick, start, outcome, replayOn, replay, beginning, planOf, plansOf, endsFit, isSolves, planRefusal, plansRefusal, jointReplay}
+use Rattle.semantics.specs.Run.{Run, Fault, by, isClosed, Replied, Outcome, failure, Replay, rest, runAfter, tally, pick, start, outcome, replayOn, replay, beginning, planOf, plansOf, endsFit, isSolves, planRefusal, plansRefusal, jointReplay}
 use Rattle.semantics.specs.Model.{World, Acts, Collides, Execution, none, then, Solution}
 use Rattle.semantics.specs.Demands.{factsOf, setting, worldOf, worldAt, OutcomeOf, Ends, SolvingPlans, JointReplayAgrees}
 use Rattle.theory.proofs.Lists.{apart, and-elim, all-true, true-all, upTo-mem, mem-upTo}
-use Rattle.theory.proofs.Refusals.{else-both, if-not-true, no-refusal, upTo-refusal, unless-gives}
+use Rattle.theory.proofs.Refusals.{else-both, if-not-true, no-refusal, refused-gives, upTo-refusal, unless-gives}
 use Rattle.theory.proofs.Accepted.{accepted}
 use Rattle.theory.proofs.Complete.{closed-outcome}
 use Rattle.theory.proofs.Plans.{leads-solves, leads-entries}
@@ -88,11 +88,11 @@ from-ends t plans x =
 
 -- ---- joint replay from a run
 
--- after a collision, and after a refusal, nothing more is answered
-collided-pick : (t : List ℕ) (plans : List (List ℕ)) (r : Run ℕ) → r .collided ≡ true → (j : ℕ)
+-- of a closed run, and after a refusal, nothing more is answered
+closed-pick : (t : List ℕ) (plans : List (List ℕ)) (r : Run ℕ) → isClosed (r .closed) ≡ true → (j : ℕ)
     → (e : ℕ) × (pick (system t) (waits t) plans r j ≡ refused e)
 unfolding pick
-collided-pick t plans r c j = go (ltb j (Task.members t)) refl
+closed-pick t plans r c j = go (ltb j (Task.members t)) refl
   where
     go : (b : Bool) → ltb j (Task.members t) ≡ b → (e : ℕ) × (pick (system t) (waits t) plans r j ≡ refused e)
     go true q = (13, rw (q, c))
@@ -108,7 +108,7 @@ replay-path : {o o′ : Outcome} {g g′ n n′ : ℕ} → o ≡ o′ → g ≡ 
     → _≡_ {A = Answer (Replay ℕ)} (gives (record { outcome = o; shared = g; picked = n })) (gives (record { outcome = o′; shared = g′; picked = n′ }))
 replay-path p q s = λ i. gives (record { outcome = p i; shared = q i; picked = s i })
 
-module _ (t : List ℕ) (few : Task.members t ≤ mostMembers) (plans : List (List ℕ)) where
+module _ (t : List ℕ) (plans : List (List ℕ)) where
   abbrev on-from : Answer (Run ℕ) → ℕ → List ℕ → Answer (Replay ℕ)
   on-from = replayOn (system t) (waits t) plans
 
@@ -116,59 +116,56 @@ module _ (t : List ℕ) (few : Task.members t ≤ mostMembers) (plans : List (Li
   abbrev Told : Run ℕ → ℕ → List ℕ → Replay ℕ → Type 0
   Told r k picks a = (m : ℕ) × (a .picked ≡ k + m) × EndsFrom t (worldAt t plans r) picks (a .outcome) (a .shared) m
 
-  going-tally : (r : Run ℕ) → Going r → (k : ℕ) → tally k (gives r) ≡ k + 1
-  going-tally r g k = rw (g .uncollided)
-
-  collided-on : (r : Run ℕ) → r .collided ≡ true → (k : ℕ) (picks : List ℕ) (a : Replay ℕ) → on-from (gives r) k picks ≡ gives a
-      → (picks ≡ []) × (a .outcome ≡ failure Fault.collision) × (a .shared ≡ r .shared) × (a .picked ≡ k)
+  closed-on : (r : Run ℕ) (f : Fault) → r .closed ≡ by f → (k : ℕ) (picks : List ℕ) (a : Replay ℕ) → on-from (gives r) k picks ≡ gives a
+      → (picks ≡ []) × (a .outcome ≡ failure f) × (a .shared ≡ r .shared) × (a .picked ≡ k)
   unfolding replayOn
-  collided-on r c k [] a h =
+  closed-on r f c k [] a h =
       let q : (record { outcome = outcome (system t) (waits t) plans r; shared = r .shared; picked = k }) ≡ a = cc in
-      (refl, sym (ap (λ (x : Replay ℕ). x .outcome) q) ∙ closed-outcome (system t) (waits t) plans r c, sym (ap (λ (x : Replay ℕ). x .shared) q), sym (ap (λ (x : Replay ℕ). x .picked) q))
-  collided-on r c k (j ∷ js) a h =
-      let (e, q) = collided-pick t plans r c j in
-      absurd (apart (cc (refused-replay t plans e (tally k (refused e)) js)))
+      (refl, sym (ap (λ (x : Replay ℕ). x .outcome) q) ∙ closed-outcome (system t) (waits t) plans r f c, sym (ap (λ (x : Replay ℕ). x .shared) q), sym (ap (λ (x : Replay ℕ). x .picked) q))
+  closed-on r f c k (j ∷ js) a h =
+      let (e, q) = closed-pick t plans r (ap isClosed c) j in
+      let given : on-from (refused e) k js ≡ gives a =
+      subst (λ (x : Answer (Replied ℕ)). on-from (runAfter x) (tally k x) js ≡ gives a) q h in
+      absurd (refused-gives (sym (refused-replay t plans e k js) ∙ given))
 
   -- a pick, and what is told of the picks after it
-  told-pick : (r : Run ℕ) (j k : ℕ) (js : List ℕ) (a : Replay ℕ) (x : Answer (Run ℕ)) → Picked t plans r j x
+  told-pick : (r : Run ℕ) (j k : ℕ) (js : List ℕ) (a : Replay ℕ) (x : Answer (Replied ℕ)) → Picked t plans r j x
       → ((r′ : Run ℕ) → Going r′ → (k′ : ℕ) → on-from (gives r′) k′ js ≡ gives a → Told r′ k′ js a)
-      → on-from x (tally k x) js ≡ gives a → Told r k (j ∷ js) a
-  told-pick r j k js a (gives r′) (Picked.goes g act) ih h =
-      let (m, q, f) = ih r′ g (tally k (gives r′)) h in
-      (suc m, omega (arith, going-tally r′ g k), on act f)
-  told-pick r j k js a (gives r′) (Picked.collides c s k′) ih h =
-      let (e, o, g, n) = collided-on r′ c (tally k (gives r′)) js a h in
-      let n′ : a .picked ≡ k = n ∙ ap (λ (b : Bool). cond b k (k + 1)) c in
+      → on-from (runAfter x) (tally k x) js ≡ gives a → Told r k (j ∷ js) a
+  told-pick r j k js a (gives p) (Picked.goes g act) ih h =
+      let (m, q, f) = ih (p .run) g (k + 1) h in
+      (suc m, omega arith, on act f)
+  told-pick r j k js a (gives p) (Picked.collides c s k′) ih h =
+      let (e, o, g, n) = closed-on (p .run) Fault.collision c k js a h in
       (0, omega arith, rw (e, o) (crash k′ (ap factsOf (sym (g ∙ s)))))
-  told-pick r j k js a (refused e) p ih h = absurd (apart (cc (refused-replay t plans e (tally k (refused e)) js)))
+  told-pick r j k js a (refused e) p ih h = absurd (apart (cc (refused-replay t plans e k js)))
 
   replay-told : (picks : List ℕ) (r : Run ℕ) → Going r → (k : ℕ) (a : Replay ℕ) → on-from (gives r) k picks ≡ gives a → Told r k picks a
   unfolding replayOn
   replay-told [] r g k a h =
       let q : (record { outcome = outcome (system t) (waits t) plans r; shared = r .shared; picked = k }) ≡ a = cc in
-      subst (Told r k []) q (0, omega arith, stop (outcome-says t few plans r g) refl)
+      subst (Told r k []) q (0, omega arith, stop (outcome-says t plans r g) refl)
   replay-told (j ∷ js) r g k a h =
-      told-pick r j k js a (pick (system t) (waits t) plans r j) (picked t few plans r g j)
+      told-pick r j k js a (pick (system t) (waits t) plans r j) (picked t plans r g j)
       (λ r′ g′ k′ e. replay-told js r′ g′ k′ a e) h
 
   -- a pick that collides, or that goes, is answered so
-  replay-crash : (r : Run ℕ) (i k g : ℕ) (x : Answer (Run ℕ)) → Picked t plans r i x → Collides (setting t) (worldAt t plans r) i → g ≡ r .shared
-      → on-from x (tally k x) [] ≡ gives (record { outcome = failure Fault.collision; shared = g; picked = k + 0 })
+  replay-crash : (r : Run ℕ) (i k g : ℕ) (x : Answer (Replied ℕ)) → Picked t plans r i x → Collides (setting t) (worldAt t plans r) i → g ≡ r .shared
+      → on-from (runAfter x) (tally k x) [] ≡ gives (record { outcome = failure Fault.collision; shared = g; picked = k + 0 })
   unfolding replayOn
-  replay-crash r i k g (gives r′) (Picked.goes g′ act) c e = absurd (acts-collides (setting t) (worldAt t plans r) i act c)
-  replay-crash r i k g (gives r′) (Picked.collides c s k′) col e =
-      replay-path (closed-outcome (system t) (waits t) plans r′ c) (s ∙ sym e) (ap (λ (b : Bool). cond b k (k + 1)) c ∙ omega arith)
+  replay-crash r i k g (gives p) (Picked.goes g′ act) c e = absurd (acts-collides (setting t) (worldAt t plans r) i act c)
+  replay-crash r i k g (gives p) (Picked.collides c s k′) col e =
+      replay-path (closed-outcome (system t) (waits t) plans (p .run) Fault.collision c) (s ∙ sym e) (omega arith)
   replay-crash r i k g (refused n) (Picked.impossible h) c e =
       absurd (moves-stays (setting t) (worldAt t plans r) i (inl c) (h (moves-agent (setting t) (worldAt t plans r) i (inl c))))
 
-  replay-act : (r : Run ℕ) (i k g m : ℕ) (is : List ℕ) (o : Outcome) (w : World (setting t)) (x : Answer (Run ℕ)) → Picked t plans r i x
+  replay-act : (r : Run ℕ) (i k g m : ℕ) (is : List ℕ) (o : Outcome) (w : World (setting t)) (x : Answer (Replied ℕ)) → Picked t plans r i x
       → Acts (setting t) (worldAt t plans r) i w
       → ((r′ : Run ℕ) → Going r′ → w ≡ worldAt t plans r′ → (k′ : ℕ) → on-from (gives r′) k′ is ≡ gives (record { outcome = o; shared = g; picked = k′ + m }))
-      → on-from x (tally k x) is ≡ gives (record { outcome = o; shared = g; picked = k + suc m })
-  replay-act r i k g m is o w (gives r′) (Picked.goes g′ act) a ih =
-      ih r′ g′ (acts-unique (setting t) (worldAt t plans r) i a act) (tally k (gives r′))
-      ∙ replay-path refl refl (omega (arith, going-tally r′ g′ k))
-  replay-act r i k g m is o w (gives r′) (Picked.collides c s k′) a ih = absurd (acts-collides (setting t) (worldAt t plans r) i a k′)
+      → on-from (runAfter x) (tally k x) is ≡ gives (record { outcome = o; shared = g; picked = k + suc m })
+  replay-act r i k g m is o w (gives p) (Picked.goes g′ act) a ih =
+      ih (p .run) g′ (acts-unique (setting t) (worldAt t plans r) i a act) (k + 1) ∙ replay-path refl refl (omega arith)
+  replay-act r i k g m is o w (gives p) (Picked.collides c s k′) a ih = absurd (acts-collides (setting t) (worldAt t plans r) i a k′)
   replay-act r i k g m is o w (refused n) (Picked.impossible h) a ih =
       absurd (moves-stays (setting t) (worldAt t plans r) i (inr (w, a)) (h (moves-agent (setting t) (worldAt t plans r) i (inr (w, a)))))
 
@@ -176,36 +173,27 @@ module _ (t : List ℕ) (few : Task.members t ≤ mostMembers) (plans : List (Li
       → (r : Run ℕ) → Going r → w ≡ worldAt t plans r → (k : ℕ) → on-from (gives r) k picks ≡ gives (record { outcome = o; shared = g; picked = k + m })
   unfolding replayOn
   told-replay (stop {w} {o} {g} s e) r gr q k =
-      replay-path (outcome-unique t few plans r gr o (subst (λ (v : World (setting t)). OutcomeOf t v o) q s))
+      replay-path (outcome-unique t plans r gr o (subst (λ (v : World (setting t)). OutcomeOf t v o) q s))
       (same-facts (r .shared) g (ap (λ (v : World (setting t)). v .state) (sym q) ∙ e))
       (omega arith)
   told-replay (crash {w} {i} {g} c e) r gr q k =
-      replay-crash r i k g (pick (system t) (waits t) plans r i) (picked t few plans r gr i)
+      replay-crash r i k g (pick (system t) (waits t) plans r i) (picked t plans r gr i)
       (subst (λ (v : World (setting t)). Collides (setting t) v i) q c)
       (same-facts g (r .shared) (sym e ∙ ap (λ (v : World (setting t)). v .state) q))
   told-replay (on {w} {w′} {i} {g} {m} {is} {o} a x) r gr q k =
-      replay-act r i k g m is o w′ (pick (system t) (waits t) plans r i) (picked t few plans r gr i)
+      replay-act r i k g m is o w′ (pick (system t) (waits t) plans r i) (picked t plans r gr i)
       (subst (λ (v : World (setting t)). Acts (setting t) v i w′) q a)
       (λ r′ g′ e k′. told-replay x r′ g′ e k′)
 
 -- ---- the operation
 
-zeros-at : (n j : ℕ) → getD {A = ℕ} (replicate n 0) j 0 ≡ 0
-zeros-at zero j = refl
-zeros-at (suc n) zero = refl
-zeros-at (suc n) (suc j) = zeros-at n j
-
-start-rest : (t : List ℕ) (plans : List (List ℕ)) (j : ℕ) → rest plans (start (system t)) j ≡ getD plans j []
-unfolding start rest
-start-rest t plans j = ap (λ (n : ℕ). drop n (getD plans j [])) (zeros-at mostMembers j)
-
 pub start-world : (t : List ℕ) (plans : List (List ℕ)) → worldOf t plans ≡ worldAt t plans (start (system t))
-unfolding start
-start-world t plans = let left = fun-ext (start-rest t plans) in sym (λ i. record { state = setting t .init; left = left i })
+unfolding start rest
+start-world t plans = refl
 
 pub start-going : (t : List ℕ) → Going (start (system t))
 unfolding start
-start-going t = record { wide = refl; uncollided = refl }
+start-going t = refl
 
 is-solves : (r : Solo) → isSolves r ≡ true → r ≡ solves
 is-solves solves h = refl
@@ -270,9 +258,6 @@ module _ (t plans ends : List ℕ) where
     abbrev P : List (List ℕ)
     P = plansOf (Task.members t) plans ends
 
-    few : Task.members t ≤ mostMembers
-    few = accepted t (checked h .0) .few-members
-
     answer : (picks : List ℕ) → jointReplay t plans ends picks ≡ replayOn (system t) (waits t) P (gives (start (system t))) 0 picks
     unfolding jointReplay replay
     answer picks = ap (λ (r : ℕ). unless r (replayOn (system t) (waits t) P (gives (start (system t))) 0 picks)) h
@@ -285,11 +270,11 @@ module _ (t plans ends : List ℕ) where
         → (jointReplay t plans ends picks ≡ gives (record { outcome = o; shared = g; picked = k })) ↔ Ends t P picks o g k
     replays picks o g k = (
       λ e.
-          let (m, q, f) = replay-told t few P picks (start (system t)) (start-going t) 0 (record { outcome = o; shared = g; picked = k }) (sym (answer picks) ∙ e) in
+          let (m, q, f) = replay-told t P picks (start (system t)) (start-going t) 0 (record { outcome = o; shared = g; picked = k }) (sym (answer picks) ∙ e) in
           let m′ : m ≡ k = omega arith in
           from-ends t P (rw (start-world t P) (subst (EndsFrom t (worldAt t P (start (system t))) picks o g) m′ f)),
       λ e.
-          answer picks ∙ told-replay t few P (ends-from t P e) (start (system t)) (start-going t) (start-world t P) 0
+          answer picks ∙ told-replay t P (ends-from t P e) (start (system t)) (start-going t) (start-world t P) 0
           ∙ replay-path refl refl (omega arith),
     )
 

@@ -11,7 +11,7 @@ use borrow.Author.Tests.{ltb-false}
 use Rattle.semantics.specs.Base.{Answer, refused, gives, numbersFrom, upTo}
 use Rattle.semantics.specs.Task as Task
 use Rattle.semantics.specs.System.{System, system, waits}
-use Rattle.semantics.specs.Run.{Run, mostMembers, Fault, Outcome, success, failure, still-open, missed, deadlock, rest, given, pick, pickable, stepsLeft, missedIn, outcome}
+use Rattle.semantics.specs.Run.{Run, Fault, Closed, Replied, Outcome, success, failure, still-open, closing, missed, deadlock, rest, given, pick, pickable, stepsLeft, missedIn, outcome}
 use Rattle.semantics.specs.Model.{World, Waiting, Ended, GoesOn}
 use Rattle.semantics.specs.Demands.{setting, OutcomeOf, worldAt, Stays}
 use Rattle.theory.proofs.Lists.{lt-or-ge, not-true-false, not-false-true, any-true, true-any, any-false, false-any, mem-upTo, upTo-mem}
@@ -64,19 +64,19 @@ none-left : (p : List ℕ) → ltb 0 (length p) ≡ false → p ≡ []
 none-left [] h = refl
 none-left (a ∷ p) h = absurd (omega (arith, ltb-false))
 
-picked-given : (t : List ℕ) (plans : List (List ℕ)) (r : Run ℕ) (j : ℕ) (x : Answer (Run ℕ)) → Picked t plans r j x
+picked-given : (t : List ℕ) (plans : List (List ℕ)) (r : Run ℕ) (j : ℕ) (x : Answer (Replied ℕ)) → Picked t plans r j x
     → (given x ≡ true) ↔ Moves (setting t) (worldAt t plans r) j
-picked-given t plans r j (gives r′) (Picked.goes g a) = (λ h. inr (worldAt t plans r′, a), λ m. refl)
-picked-given t plans r j (gives r′) (Picked.collides c s k) = (λ h. inl k, λ m. refl)
+picked-given t plans r j (gives p) (Picked.goes g a) = (λ h. inr (worldAt t plans (p .run), a), λ m. refl)
+picked-given t plans r j (gives p) (Picked.collides c s k) = (λ h. inl k, λ m. refl)
 picked-given t plans r j (refused e) (Picked.impossible h) =
     (λ k. absurd (false≢true k), λ m. absurd (moves-stays (setting t) (worldAt t plans r) j m (h (moves-agent (setting t) (worldAt t plans r) j m))))
 
-picked-stays : (t : List ℕ) (plans : List (List ℕ)) (r : Run ℕ) (j : ℕ) (x : Answer (Run ℕ)) → Picked t plans r j x
+picked-stays : (t : List ℕ) (plans : List (List ℕ)) (r : Run ℕ) (j : ℕ) (x : Answer (Replied ℕ)) → Picked t plans r j x
     → given x ≡ false → j < Task.members t → Stays (setting t) (worldAt t plans r) j
-picked-stays t plans r j (gives r′) p h = absurd (false≢true (sym h))
+picked-stays t plans r j (gives x) p h = absurd (false≢true (sym h))
 picked-stays t plans r j (refused e) (Picked.impossible s) h = s
 
-module _ (t : List ℕ) (few : Task.members t ≤ mostMembers) (plans : List (List ℕ)) (r : Run ℕ) (going : Going r) where
+module _ (t : List ℕ) (plans : List (List ℕ)) (r : Run ℕ) (going : Going r) where
   abbrev world : World (setting t)
   world = worldAt t plans r
 
@@ -86,11 +86,11 @@ module _ (t : List ℕ) (few : Task.members t ≤ mostMembers) (plans : List (Li
   abbrev has-steps : Bool
   has-steps = stepsLeft (system t) (waits t) plans r
 
-  abbrev pick-of : ℕ → Answer (Run ℕ)
+  abbrev pick-of : ℕ → Answer (Replied ℕ)
   pick-of j = pick (system t) (waits t) plans r j
 
   pick-says : (j : ℕ) → Picked t plans r j (pick-of j)
-  pick-says = picked t few plans r going
+  pick-says = picked t plans r going
 
   pickable-goes : can-pick ≡ true → GoesOn (setting t) world
   unfolding pickable
@@ -140,7 +140,7 @@ module _ (t : List ℕ) (few : Task.members t ≤ mostMembers) (plans : List (Li
       → outcome (system t) (waits t) plans r ≡ cond b still-open (cond c (failure deadlock) goals-outcome)
   unfolding outcome
   outcome-by b c p s =
-      ap (λ (x : Bool). cond x (failure Fault.collision) (cond can-pick still-open (cond has-steps (failure deadlock) goals-outcome))) (going .uncollided)
+      ap (λ (x : Closed). closing x (cond can-pick still-open (cond has-steps (failure deadlock) goals-outcome))) going
       ∙ rw (p, s)
 
   goals-of : Ended (setting t) world → (o : Outcome) → FirstMissed (system t) (r .shared) 0 (Task.members t) o → OutcomeOf t world o

@@ -1,17 +1,16 @@
 -- The finished runs are just the successes exactly when the task's setting is robust in the model: the worlds that executions lead to are
 -- those that runs stand in. Assumes nothing.
 use mathlib.Core.Path.{_≡_, refl, sym, ap, subst, fun-ext, _∙_}
-use mathlib.Core.Bool.{Bool, true, false, not, false≢true}
-use mathlib.Core.Logic.{_⊎_, inl, inr, ⊎-elim, _↔_}
+use mathlib.Core.Bool.{Bool, not, false≢true}
+use mathlib.Core.Logic.{inl, inr, _↔_}
 use mathlib.Core.List.{List, [], _∷_, _++_}
-use Prim.Native.Nat.{ℕ, _≤_, _<_}
-use lib.ListN.{length, getD}
+use Prim.Native.Nat.{ℕ}
+use lib.ListN.{getD}
 use Rattle.semantics.specs.Base.{Answer, refused, gives}
-use Rattle.semantics.specs.Task as Task
 use Rattle.semantics.specs.System.{system, waits, Choice}
-use Rattle.semantics.specs.Run.{Run, mostMembers, Fault, Outcome, success, failure, still-open, isSuccess, isOpen, passOver, start, pick, outcome, play}
-use Rattle.semantics.specs.Model.{World, Acts, Collides, Deadlock, Missed, Success, GoesOn, Ended, Execution, none, then, begin, Solutions, Faultless, Robust}
-use Rattle.semantics.specs.Demands.{setting, worldOf, worldAt, OutcomeOf, finishedRuns, successes, runOutcome}
+use Rattle.semantics.specs.Run.{Run, Fault, by as by-fault, Replied, Outcome, success, failure, still-open, isSuccess, isOpen, passOver, start, pick, outcome, play}
+use Rattle.semantics.specs.Model.{World, Acts, Collides, Execution, none, then, Faultless, Robust}
+use Rattle.semantics.specs.Demands.{setting, worldOf, worldAt, OutcomeOf}
 use Rattle.theory.proofs.Agrees.Joint.{start-going, start-world}
 use Rattle.theory.proofs.Agrees.Outcome.{outcome-says}
 use Rattle.theory.proofs.Agrees.Pick.{Going, Picked, picked}
@@ -20,7 +19,7 @@ use Rattle.theory.proofs.Agrees.Worlds.{moves-agent, moves-stays, acts-
 use Rattle.theory.proofs.Complete.{closed-outcome}
 use Rattle.theory.proofs.Robust.{RunsSucceed}
 
-module _ (t : List ℕ) (few : Task.members t ≤ mostMembers) (plans : List (List ℕ)) where
+module _ (t : List ℕ) (plans : List (List ℕ)) where
   abbrev at : Run ℕ → World (setting t)
   at = worldAt t plans
 
@@ -33,10 +32,10 @@ module _ (t : List ℕ) (few : Task.members t ≤ mostMembers) (plans : List (Li
   -- ---- from executions to runs
 
   -- the pick of an agent that acts goes on to the same world
-  act-picked : (r : Run ℕ) (i : ℕ) (w : World (setting t)) (x : Answer (Run ℕ)) → Picked t plans r i x → Acts (setting t) (at r) i w
+  act-picked : (r : Run ℕ) (i : ℕ) (w : World (setting t)) (x : Answer (Replied ℕ)) → Picked t plans r i x → Acts (setting t) (at r) i w
       → Going (passOver r x) × (w ≡ at (passOver r x))
-  act-picked r i w (gives r′) (Picked.goes g act) a = (g, acts-unique (setting t) (at r) i a act)
-  act-picked r i w (gives r′) (Picked.collides c s k) a = absurd (acts-collides (setting t) (at r) i a k)
+  act-picked r i w (gives p) (Picked.goes g act) a = (g, acts-unique (setting t) (at r) i a act)
+  act-picked r i w (gives p) (Picked.collides c s k) a = absurd (acts-collides (setting t) (at r) i a k)
   act-picked r i w (refused e) (Picked.impossible h) a =
       absurd (moves-stays (setting t) (at r) i (inr (w, a)) (h (moves-agent (setting t) (at r) i (inr (w, a)))))
 
@@ -45,7 +44,7 @@ module _ (t : List ℕ) (few : Task.members t ≤ mostMembers) (plans : List (Li
   unfolding play
   execution-plays none r g e = (g, e)
   execution-plays (then {w′ = w′} {i = i} a x) r g e =
-      let n = act-picked r i w′ (pick (system t) (waits t) plans r i) (picked t few plans r g i)
+      let n = act-picked r i w′ (pick (system t) (waits t) plans r i) (picked t plans r g i)
       (subst (λ (v : World (setting t)). Acts (setting t) v i w′) e a) in
       execution-plays x (passOver r (pick (system t) (waits t) plans r i)) (n .0) (n .1)
 
@@ -56,9 +55,9 @@ module _ (t : List ℕ) (few : Task.members t ≤ mostMembers) (plans : List (Li
   play-snoc r (j ∷ is) i = play-snoc (passOver r (pick (system t) (waits t) plans r j)) is i
 
   -- the pick of an agent that collides closes the run
-  crash-picked : (r : Run ℕ) (i : ℕ) (x : Answer (Run ℕ)) → Picked t plans r i x → Collides (setting t) (at r) i → passOver r x .collided ≡ true
-  crash-picked r i (gives r′) (Picked.goes g act) k = absurd (acts-collides (setting t) (at r) i act k)
-  crash-picked r i (gives r′) (Picked.collides c s k′) k = c
+  crash-picked : (r : Run ℕ) (i : ℕ) (x : Answer (Replied ℕ)) → Picked t plans r i x → Collides (setting t) (at r) i → passOver r x .closed ≡ by-fault Fault.collision
+  crash-picked r i (gives p) (Picked.goes g act) k = absurd (acts-collides (setting t) (at r) i act k)
+  crash-picked r i (gives p) (Picked.collides c s k′) k = c
   crash-picked r i (refused e) (Picked.impossible h) k =
       absurd (moves-stays (setting t) (at r) i (inl k) (h (moves-agent (setting t) (at r) i (inl k))))
 
@@ -76,13 +75,13 @@ module _ (t : List ℕ) (few : Task.members t ≤ mostMembers) (plans : List (Li
 
         no-collision : Going r → (i : ℕ) → ¬ Collides (setting t) (at r) i
         no-collision g i k =
-            let closed = crash-picked r i (pick (system t) (waits t) plans r i) (picked t few plans r g i) k in
+            let closed = crash-picked r i (pick (system t) (waits t) plans r i) (picked t plans r g i) k in
             never-fails (is ++ (i ∷ [])) Fault.collision
             (ap outcomeOf (play-snoc (start (system t)) is i)
-            ∙ closed-outcome (system t) (waits t) plans (passOver r (pick (system t) (waits t) plans r i)) closed)
+            ∙ closed-outcome (system t) (waits t) plans (passOver r (pick (system t) (waits t) plans r i)) Fault.collision closed)
 
         faultless : Going r → Faultless (setting t) (at r)
-        faultless g = by (outcomeOf r) refl (outcome-says t few plans r g)
+        faultless g = by (outcomeOf r) refl (outcome-says t plans r g)
           where
             by : (o : Outcome) → outcomeOf r ≡ o → OutcomeOf t (at r) o → Faultless (setting t) (at r)
             by success e (ended, goals) =
@@ -111,17 +110,17 @@ module _ (t : List ℕ) (few : Task.members t ≤ mostMembers) (plans : List (Li
   execution-snoc none a = then a none
   execution-snoc (then b x) a = then b (execution-snoc x a)
 
-  pick-led : (r : Run ℕ) {is : List ℕ} → Going r → Execution (setting t) (worldOf t plans) is (at r) → (i : ℕ) (x : Answer (Run ℕ)) → Picked t plans r i x
+  pick-led : (r : Run ℕ) {is : List ℕ} → Going r → Execution (setting t) (worldOf t plans) is (at r) → (i : ℕ) (x : Answer (Replied ℕ)) → Picked t plans r i x
       → Led (passOver r x)
-  pick-led r g x i (gives r′) (Picked.goes g′ act) = going g′ (execution-snoc x act)
-  pick-led r g x i (gives r′) (Picked.collides c s k) = crashed x k
+  pick-led r g x i (gives p) (Picked.goes g′ act) = going g′ (execution-snoc x act)
+  pick-led r g x i (gives p) (Picked.collides c s k) = crashed x k
   pick-led r g x i (refused e) (Picked.impossible h) = going g x
 
   plays-led : (r : Run ℕ) → Led r → (js : List ℕ) → Led (played r js)
   unfolding play
   plays-led r l [] = l
   plays-led r (going g x) (j ∷ js) =
-      plays-led (passOver r (pick (system t) (waits t) plans r j)) (pick-led r g x j (pick (system t) (waits t) plans r j) (picked t few plans r g j)) js
+      plays-led (passOver r (pick (system t) (waits t) plans r j)) (pick-led r g x j (pick (system t) (waits t) plans r j) (picked t plans r g j)) js
   plays-led r (crashed x k) (j ∷ js) = plays-led (passOver r (pick (system t) (waits t) plans r j)) (crashed x k) js
 
   faultless-runs : ((is : List ℕ) (w : World (setting t)) → Execution (setting t) (worldOf t plans) is w → Faultless (setting t) w)
@@ -138,17 +137,17 @@ module _ (t : List ℕ) (few : Task.members t ≤ mostMembers) (plans : List (Li
       by r (failure Fault.collision) x f = absurd x
 
       ends : (r : Run ℕ) → Led r → not (isOpen (outcomeOf r)) ≡ isSuccess (outcomeOf r)
-      ends r (going {is = is} g x) = by r (outcomeOf r) (outcome-says t few plans r g) (none-fails is (at r) x)
+      ends r (going {is = is} g x) = by r (outcomeOf r) (outcome-says t plans r g) (none-fails is (at r) x)
       ends r (crashed {is = is} {i = i} {w = w} x k) = absurd (none-fails is w x .no-collision i k)
 
-pub runs-setting : (t : List ℕ) → Task.members t ≤ mostMembers → RunsSucceed (system t) (waits t) ↔ Robust (setting t)
-runs-setting t few = (
+pub runs-setting : (t : List ℕ) → RunsSucceed (system t) (waits t) ↔ Robust (setting t)
+runs-setting t = (
   λ succeed plans s is w x.
       let c : Choice (system t) = record { plans = plans; many = s .many; solving = λ j l. solution-leads t j (getD plans j []) (s .each j l) } in
-      execution-faultless t few plans
+      execution-faultless t plans
       (λ js. ap (λ (runs : Choice (system t) → List ℕ → Bool). runs c js) succeed) is w x,
   λ robust.
       fun-ext (λ c. fun-ext (λ picks.
-      faultless-runs t few (c .plans)
+      faultless-runs t (c .plans)
       (robust (c .plans) (record { many = c .many; each = λ i l. leads-solution t i (getD (c .plans) i []) (c .solving i l) })) picks)),
 )
