@@ -57,7 +57,8 @@ module _ {A : Type 0} (of : A → List ℕ) (out : List ℕ) (a : Answer A) (sho
   refused-call : (k : ℕ) → short ≡ false → a ≡ refused k → call k out ≡ called short of out a
   refused-call k e is = sym (ap₂ (λ (b : Bool) (x : Answer A). called b of out x) e is)
 
-  given-call : (x : A) (after : List ℕ) → short ≡ false → a ≡ gives x → after ≡ front (of x) out → call 0 after ≡ called short of out a
+  given-call : (x : A) (after : List ℕ) → short ≡ false → a ≡ gives x → after ≡ front (of x) out
+      → call 0 after ≡ called short of out a
   given-call x after e is put = ap (call 0) put ∙ sym (ap₂ (λ (b : Bool) (y : Answer A). called b of out y) e is)
 
 module _ {A : Type 0} (before after : A) (short : Bool) where
@@ -74,18 +75,25 @@ long out k h = le-ltb (length out) k h
 
 module _ (t shared out : List ℕ) (action : ℕ) where
   abbrev StepCall : Call → Type 0
-  StepCall c = c ≡ called (not (eqb (length shared) 1) || ltb (length out) 2) numbers.decision out (step t action (getD shared 0 0))
+  StepCall c =
+      c ≡ called (not (eqb (length shared) 1) || ltb (length out) 2) numbers.decision out
+      (step t action (getD shared 0 0))
 
   abbrev stepShort : Bool
   stepShort = not (eqb (length shared) 1) || ltb (length out) 2
 
   pub step-shared : (length shared ≡ 1 → ⊥) → StepCall (call 14 out)
-  step-shared h = short-call numbers.decision out (step t action (getD shared 0 0)) stepShort (or-left (not (eqb (length shared) 1)) (ltb (length out) 2) (ap not (ne-eqb (length shared) 1 h)))
+  step-shared h =
+      short-call numbers.decision out (step t action (getD shared 0 0)) stepShort
+      (or-left (not (eqb (length shared) 1)) (ltb (length out) 2) (ap not (ne-eqb (length shared) 1 h)))
 
   pub step-short : length out < 2 → StepCall (call 14 out)
-  step-short h = short-call numbers.decision out (step t action (getD shared 0 0)) stepShort (or-right (not (eqb (length shared) 1)) (ltb (length out) 2) (lt-ltb (length out) 2 h))
+  step-short h =
+      short-call numbers.decision out (step t action (getD shared 0 0)) stepShort
+      (or-right (not (eqb (length shared) 1)) (ltb (length out) 2) (lt-ltb (length out) 2 h))
 
-  module _ (one : length shared ≡ 1) (room : 2 ≤ length out) (m : Mask) (e : number m ≡ getD shared 0 0) (s : Stepped) (is : steppedOf s ≡ step t action (number m)) where
+  module _ (one : length shared ≡ 1) (room : 2 ≤ length out) (m : Mask) (e : number m ≡ getD shared 0 0) (s : Stepped)
+      (is : steppedOf s ≡ step t action (number m)) where
     fits : stepShort ≡ false
     fits = ap₂ _||_ (ap not (eq-eqb (length shared) 1 one)) (long out 2 room)
 
@@ -93,11 +101,15 @@ module _ (t shared out : List ℕ) (action : ℕ) where
     answered x so = ap (step t action) (sym e) ∙ sym is ∙ ap steppedOf so
 
     pub step-refused : (k : ℕ) → s ≡ stepped.Refused k → StepCall (call k out)
-    step-refused k so = refused-call numbers.decision out (step t action (getD shared 0 0)) stepShort k fits (answered (stepped.Refused k) so)
+    step-refused k so =
+        refused-call numbers.decision out (step t action (getD shared 0 0)) stepShort k fits
+        (answered (stepped.Refused k) so)
 
-    pub step-given : (d : Decision) (ns now : List ℕ) → s ≡ stepped.Gives d → ns ≡ numbers.decision (decisionOf d) → now ≡ front ns out → StepCall (call 0 now)
+    pub step-given : (d : Decision) (ns now : List ℕ) → s ≡ stepped.Gives d → ns ≡ numbers.decision (decisionOf d)
+        → now ≡ front ns out → StepCall (call 0 now)
     step-given d ns now so e′ put =
-        given-call numbers.decision out (step t action (getD shared 0 0)) stepShort (decisionOf d) now fits (answered (stepped.Gives d) so)
+        given-call numbers.decision out (step t action (getD shared 0 0)) stepShort (decisionOf d) now fits
+        (answered (stepped.Gives d) so)
         (put ∙ ap (λ (x : List ℕ). front x out) e′)
 
 -- ---- solo replay
@@ -109,13 +121,18 @@ module _ (t plan out : List ℕ) (member : ℕ) where
   pub solo-short : length out < 2 → SoloCall (call 14 out)
   solo-short h = short-call numbers.solo out (soloReplay t member plan) (ltb (length out) 2) (lt-ltb (length out) 2 h)
 
-  module _ (room : 2 ≤ length out) (s : soloReplayed.Replayed) (is : soloValue.replayedOf s ≡ soloReplay t member plan) where
+  module _ (room : 2 ≤ length out) (s : soloReplayed.Replayed)
+      (is : soloValue.replayedOf s ≡ soloReplay t member plan) where
     pub solo-refused : (k : ℕ) → s ≡ solved.Refused k → SoloCall (call k out)
-    solo-refused k so = refused-call numbers.solo out (soloReplay t member plan) (ltb (length out) 2) k (long out 2 room) (sym is ∙ ap soloValue.replayedOf so)
+    solo-refused k so =
+        refused-call numbers.solo out (soloReplay t member plan) (ltb (length out) 2) k (long out 2 room)
+        (sym is ∙ ap soloValue.replayedOf so)
 
-    pub solo-given : (d : Solo) (ns now : List ℕ) → s ≡ solved.Gives d → ns ≡ numbers.solo (soloValue.soloOf d) → now ≡ front ns out → SoloCall (call 0 now)
+    pub solo-given : (d : Solo) (ns now : List ℕ) → s ≡ solved.Gives d → ns ≡ numbers.solo (soloValue.soloOf d)
+        → now ≡ front ns out → SoloCall (call 0 now)
     solo-given d ns now so e put =
-        given-call numbers.solo out (soloReplay t member plan) (ltb (length out) 2) (soloValue.soloOf d) now (long out 2 room) (sym is ∙ ap soloValue.replayedOf so)
+        given-call numbers.solo out (soloReplay t member plan) (ltb (length out) 2) (soloValue.soloOf d) now
+        (long out 2 room) (sym is ∙ ap soloValue.replayedOf so)
         (put ∙ ap (λ (x : List ℕ). front x out) e)
 
 -- ---- joint replay
@@ -125,16 +142,20 @@ module _ (t plans ends picks out : List ℕ) where
   JointCall c = c ≡ called (ltb (length out) 4) numbers.replay out (jointReplay t plans ends picks)
 
   pub joint-short : length out < 4 → JointCall (call 14 out)
-  joint-short h = short-call numbers.replay out (jointReplay t plans ends picks) (ltb (length out) 4) (lt-ltb (length out) 4 h)
+  joint-short h =
+      short-call numbers.replay out (jointReplay t plans ends picks) (ltb (length out) 4) (lt-ltb (length out) 4 h)
 
   module _ (room : 4 ≤ length out) (s : Replayed) (is : picksValue.replayedOf s ≡ jointReplay t plans ends picks) where
     pub joint-refused : (k : ℕ) → s ≡ replayed.Refused k → JointCall (call k out)
-    joint-refused k so = refused-call numbers.replay out (jointReplay t plans ends picks) (ltb (length out) 4) k (long out 4 room) (sym is ∙ ap picksValue.replayedOf so)
+    joint-refused k so =
+        refused-call numbers.replay out (jointReplay t plans ends picks) (ltb (length out) 4) k (long out 4 room)
+        (sym is ∙ ap picksValue.replayedOf so)
 
     pub joint-given : (r : Replay) (g : ℕ) (ns now : List ℕ) → s ≡ replayed.Gives r → g ≡ number (r .shared .0)
         → ns ≡ numbers.replayed (outcomeOf (r .outcome)) (r .picked) g → now ≡ front ns out → JointCall (call 0 now)
     joint-given r g ns now so same e put =
-        given-call numbers.replay out (jointReplay t plans ends picks) (ltb (length out) 4) (picksValue.replayOf r) now (long out 4 room) (sym is ∙ ap picksValue.replayedOf so)
+        given-call numbers.replay out (jointReplay t plans ends picks) (ltb (length out) 4) (picksValue.replayOf r) now
+        (long out 4 room) (sym is ∙ ap picksValue.replayedOf so)
         (put ∙ ap (λ (x : List ℕ). front x out) (e ∙ ap (numbers.replayed (outcomeOf (r .outcome)) (r .picked)) same))
 
 -- ---- solo search
@@ -156,26 +177,34 @@ module _ (t table marks out : List ℕ) (member : ℕ) where
         ),
       )
 
-  module _ (room : 2 ≤ length out) (s : SearchAnswer) (table′ marks′ : List ℕ) (is : searchedOf s table′ marks′ ≡ soloSearch t member table marks) where
-    slices : (c : Call) → c ≡ called (ltb (length out) 2) numbers.searched out (soloSearch t member table marks .answer) → SearchCall table′ marks′ c
+  module _ (room : 2 ≤ length out) (s : SearchAnswer) (table′ marks′ : List ℕ)
+      (is : searchedOf s table′ marks′ ≡ soloSearch t member table marks) where
+    slices : (c : Call) → c ≡ called (ltb (length out) 2) numbers.searched out (soloSearch t member table marks .answer)
+        → SearchCall table′ marks′ c
     slices c e = (
       e,
       (
-        called-slice table (soloSearch t member table marks .table) (ltb (length out) 2) table′ (long out 2 room) (ap (λ (x : SoloSearch). x .table) is),
-        called-slice marks (soloSearch t member table marks .marks) (ltb (length out) 2) marks′ (long out 2 room) (ap (λ (x : SoloSearch). x .marks) is),
+        called-slice table (soloSearch t member table marks .table) (ltb (length out) 2) table′ (long out 2 room)
+            (ap (λ (x : SoloSearch). x .table) is),
+        called-slice marks (soloSearch t member table marks .marks) (ltb (length out) 2) marks′ (long out 2 room)
+            (ap (λ (x : SoloSearch). x .marks) is),
       ),
     )
 
     pub search-refused : (k : ℕ) → s ≡ search′.Refused k → SearchCall table′ marks′ (call k out)
     search-refused k so =
         slices (call k out)
-        (refused-call numbers.searched out (soloSearch t member table marks .answer) (ltb (length out) 2) k (long out 2 room)
-        (sym (ap (λ (x : SoloSearch). x .answer) is) ∙ ap (λ (x : SearchAnswer). searchedOf x table′ marks′ .answer) so))
+        (refused-call numbers.searched out (soloSearch t member table marks .answer) (ltb (length out) 2) k
+        (long out 2 room)
+        (sym (ap (λ (x : SoloSearch). x .answer) is)
+        ∙ ap (λ (x : SearchAnswer). searchedOf x table′ marks′ .answer) so))
 
-    pub search-given : (count : ℕ) (live : Bool) (now : List ℕ) → s ≡ search′.Found count live → now ≡ front (count ∷ boolByte live ∷ []) out → SearchCall table′ marks′ (call 0 now)
+    pub search-given : (count : ℕ) (live : Bool) (now : List ℕ) → s ≡ search′.Found count live
+        → now ≡ front (count ∷ boolByte live ∷ []) out → SearchCall table′ marks′ (call 0 now)
     search-given count live now so put =
         slices (call 0 now)
-        (given-call numbers.searched out (soloSearch t member table marks .answer) (ltb (length out) 2) (record { count = count; live = live }) now (long out 2 room)
+        (given-call numbers.searched out (soloSearch t member table marks .answer) (ltb (length out) 2)
+        (record { count = count; live = live }) now (long out 2 room)
         (sym (ap (λ (x : SoloSearch). x .answer) is) ∙ ap (λ (x : SearchAnswer). searchedOf x table′ marks′ .answer) so)
         (put ∙ ap (λ (x : ℕ). front (count ∷ x ∷ []) out) (byte live)))
 
@@ -190,8 +219,10 @@ module _ (t plans ends run out : List ℕ) (member : ℕ) where
 
   abbrev PickCall : List ℕ → Call → Type 0
   PickCall run′ c =
-      (c ≡ called (ltb (length run) runWords || ltb (length out) 1) numbers.picked out (pickOn t plans ends (runIn run) member))
-      × (run′ ≡ unlessShort (ltb (length run) runWords || ltb (length out) 1) run (after run (pickOn t plans ends (runIn run) member)))
+      (c ≡ called (ltb (length run) runWords || ltb (length out) 1) numbers.picked out
+      (pickOn t plans ends (runIn run) member))
+      × (run′ ≡ unlessShort (ltb (length run) runWords || ltb (length out) 1) run
+      (after run (pickOn t plans ends (runIn run) member)))
 
   pub pick-run : length run < runWords → PickCall run (call 14 out)
   pick-run h =
@@ -203,7 +234,8 @@ module _ (t plans ends run out : List ℕ) (member : ℕ) where
       let e = or-right (ltb (length run) runWords) (ltb (length out) 1) (lt-ltb (length out) 1 h) in
       (short-call numbers.picked out done pickShort e, short-slice run (after run done) pickShort e)
 
-  module _ (room : runWords ≤ length run) (space : 1 ≤ length out) (r : Run) (is : runOf r ≡ runIn run) (p : Picked) (means : PickMeans (pickOn t plans ends (runOf r) member) r p) where
+  module _ (room : runWords ≤ length run) (space : 1 ≤ length out) (r : Run) (is : runOf r ≡ runIn run) (p : Picked)
+      (means : PickMeans (pickOn t plans ends (runOf r) member) r p) where
     fits′ : pickShort ≡ false
     fits′ = ap₂ _||_ (long run runWords room) (long out 1 space)
 
@@ -223,7 +255,8 @@ module _ (t plans ends run out : List ℕ) (member : ℕ) where
     pick-given x so k number′ result now run′ put held =
         let is : done ≡ gives (record { reply = replyOf x; run = runOf (p .run) }) = means-gives here x so in (
           put
-              ∙ given-call numbers.picked out done pickShort (record { reply = replyOf x; run = runOf (p .run) }) (front (k ∷ []) out)
+              ∙ given-call numbers.picked out done pickShort (record { reply = replyOf x; run = runOf (p .run) })
+              (front (k ∷ []) out)
               fits′ is (ap (λ (n : ℕ). front (n ∷ []) out) number′),
           called-slice run (after run done) pickShort run′ fits′ (held ∙ sym (ap (after run) is)),
         )
@@ -238,12 +271,19 @@ module _ (text words out : List ℕ) where
 
   pub read-short : length out < 1 → ReadCall words (call 14 out)
   read-short h =
-      let e = lt-ltb (length out) 1 h in
-      (short-call numbers.records out (readText text words .answer) (ltb (length out) 1) e, short-slice words (readText text words .words) (ltb (length out) 1) e)
+      let e = lt-ltb (length out) 1 h in (
+        short-call numbers.records out (readText text words .answer) (ltb (length out) 1) e,
+        short-slice words (readText text words .words) (ltb (length out) 1) e,
+      )
 
   module _ (room : 1 ≤ length out) (s : TextRead) (words′ : List ℕ) (is : reading s words′ ≡ readText text words) where
-    slice′ : (c : Call) → c ≡ called (ltb (length out) 1) numbers.records out (readText text words .answer) → ReadCall words′ c
-    slice′ c e = (e, called-slice words (readText text words .words) (ltb (length out) 1) words′ (long out 1 room) (ap (λ (x : Reading). x .words) is))
+    slice′ : (c : Call) → c ≡ called (ltb (length out) 1) numbers.records out (readText text words .answer)
+        → ReadCall words′ c
+    slice′ c e = (
+      e,
+      called-slice words (readText text words .words) (ltb (length out) 1) words′ (long out 1 room)
+          (ap (λ (x : Reading). x .words) is),
+    )
 
     pub read-refused : (k : ℕ) → s ≡ textRead.Refused k → ReadCall words′ (call k out)
     read-refused k so =
@@ -251,7 +291,8 @@ module _ (text words out : List ℕ) where
         (refused-call numbers.records out (readText text words .answer) (ltb (length out) 1) k (long out 1 room)
         (sym (ap (λ (x : Reading). x .answer) is) ∙ ap (λ (x : TextRead). reading x words′ .answer) so))
 
-    pub read-given : (n : ℕ) (now : List ℕ) → s ≡ textRead.Records n → now ≡ front (n ∷ []) out → ReadCall words′ (call 0 now)
+    pub read-given : (n : ℕ) (now : List ℕ) → s ≡ textRead.Records n → now ≡ front (n ∷ []) out
+        → ReadCall words′ (call 0 now)
     read-given n now so put =
         slice′ (call 0 now)
         (given-call numbers.records out (readText text words .answer) (ltb (length out) 1) n now (long out 1 room)
@@ -261,11 +302,15 @@ module _ (text words out : List ℕ) where
 -- ---- the verdict
 
 module _ (t out : List ℕ) (before : Slices) where
-  pub verdict-short : length out < 3 → verdictCall (ltb (length out) 3) t before before numbers.verdict out (call 14 out)
+  pub verdict-short : length out < 3
+      → verdictCall (ltb (length out) 3) t before before numbers.verdict out (call 14 out)
   verdict-short h =
-      subst (λ (b : Bool). verdictCall b t before before numbers.verdict out (call 14 out)) (sym (lt-ltb (length out) 3 h)) (refl, refl)
+      subst (λ (b : Bool). verdictCall b t before before numbers.verdict out (call 14 out))
+      (sym (lt-ltb (length out) 3 h)) (refl, refl)
 
-  pub verdict-told : 3 ≤ length out → (after′ : Slices) (v : VerdictAnswer) (c : Call) → VerdictMeans t before after′ (answerOf v) → c ≡ told numbers.verdict out (answerOf v)
+  pub verdict-told : 3 ≤ length out → (after′ : Slices) (v : VerdictAnswer) (c : Call)
+      → VerdictMeans t before after′ (answerOf v) → c ≡ told numbers.verdict out (answerOf v)
       → verdictCall (ltb (length out) 3) t before after′ numbers.verdict out c
   verdict-told room after′ v c means e =
-      subst (λ (b : Bool). verdictCall b t before after′ numbers.verdict out c) (sym (long out 3 room)) (answerOf v, means, e)
+      subst (λ (b : Bool). verdictCall b t before after′ numbers.verdict out c) (sym (long out 3 room))
+      (answerOf v, means, e)

@@ -35,9 +35,14 @@ module _ (t run : List ℕ) where
   pub start-short : length run < runWords → StartCall t run 14 run
   start-short h =
       let is : 14 ≡ startRefusal t run = rw (lt-ltb (length run) runWords h) in
-      record { number = is; held = leaves-some (startRefusal t run) run (front (wordsOf (start (system t))) run) (λ z. omega (arith, is, z)) }
+      record {
+        number = is;
+        held =
+            leaves-some (startRefusal t run) run (front (wordsOf (start (system t))) run) (λ z. omega (arith, is, z));
+      }
 
-  module _ (room : runWords ≤ length run) (s : Started) (means : RunMeans (startOf t) emptyRun (s .refusal) (s .run)) where
+  module _ (room : runWords ≤ length run) (s : Started)
+      (means : RunMeans (startOf t) emptyRun (s .refusal) (s .run)) where
     checks : (s .refusal ≡ startRefusal t run) × (s .refusal ≡ 0 → runOf (s .run) ≡ start (system t))
     checks =
         let both = same-answers (s .refusal) (check t) (runOf (s .run)) (start (system t)) (means .answer) in
@@ -45,9 +50,14 @@ module _ (t run : List ℕ) where
 
     pub start-refused : (s .refusal ≡ 0 → ⊥) → StartCall t run (s .refusal) run
     start-refused h =
-        record { number = checks .0; held = leaves-some (startRefusal t run) run (front (wordsOf (start (system t))) run) (λ z. h (checks .0 ∙ z)) }
+        record {
+          number = checks .0;
+          held =
+              leaves-some (startRefusal t run) run (front (wordsOf (start (system t))) run) (λ z. h (checks .0 ∙ z));
+        }
 
-    pub start-given : s .refusal ≡ 0 → (w run′ : List ℕ) → w ≡ wordsOf (runOf (s .run)) → run′ ≡ front w run → StartCall t run 0 run′
+    pub start-given : s .refusal ≡ 0 → (w run′ : List ℕ) → w ≡ wordsOf (runOf (s .run)) → run′ ≡ front w run
+        → StartCall t run 0 run′
     start-given z w run′ is held =
         let none : startRefusal t run ≡ 0 = sym (checks .0) ∙ z in
         record {
@@ -76,10 +86,13 @@ module _ (t plans ends run picks answers : List ℕ) where
       record { number = is; held = leaves-some refuses run words some; told = leaves-some refuses answers numbers some }
 
   module _ (room : runWords ≤ length run) (r : Run) (in-words : runOf r ≡ runIn run) (p : Played) (answers′ : List ℕ)
-      (means : PlayMeans t plans ends (playRefusal t plans ends (runOf r) picks answers) (runOf r) picks answers p answers′) where
-    there : PlayMeans t plans ends (playRefusal t plans ends (runIn run) picks answers) (runIn run) picks answers p answers′
+      (means : PlayMeans t plans ends (playRefusal t plans ends (runOf r) picks answers)
+      (runOf r) picks answers p answers′) where
+    there : PlayMeans t plans ends (playRefusal t plans ends (runIn run) picks answers)
+        (runIn run) picks answers p answers′
     there =
-        subst (λ (x : Paper.Run ℕ). PlayMeans t plans ends (playRefusal t plans ends x picks answers) x picks answers p answers′)
+        subst (λ (x : Paper.Run ℕ). PlayMeans t plans ends
+        (playRefusal t plans ends x picks answers) x picks answers p answers′)
         in-words means
 
     same : playRefusal t plans ends (runIn run) picks answers ≡ refuses
@@ -96,7 +109,8 @@ module _ (t plans ends run picks answers : List ℕ) where
           number = is;
           held = leaves-some refuses run words some;
           told =
-              there .answers ∙ sym (leaves-some (playRefusal t plans ends (runIn run) picks answers) answers numbers inner)
+              there .answers
+              ∙ sym (leaves-some (playRefusal t plans ends (runIn run) picks answers) answers numbers inner)
               ∙ leaves-some refuses answers numbers some;
         }
 
@@ -106,11 +120,14 @@ module _ (t plans ends run picks answers : List ℕ) where
         let none : refuses ≡ 0 = sym is ∙ z in
         let inner : playRefusal t plans ends (runIn run) picks answers ≡ 0 = same ∙ none in
         let played : runOf (p .run) ≡ playFrom t plans ends (runIn run) picks =
-        there .run ∙ sym (leaves-none (playRefusal t plans ends (runIn run) picks answers) (runIn run) (playFrom t plans ends (runIn run) picks) inner) in
+        there .run
+        ∙ sym (leaves-none (playRefusal t plans ends (runIn run) picks answers) (runIn run)
+        (playFrom t plans ends (runIn run) picks) inner) in
         record {
           number = sym none;
           held = held ∙ ap (λ (l : List ℕ). front l run) (e ∙ ap wordsOf played) ∙ leaves-none refuses run words none;
           told =
-              there .answers ∙ sym (leaves-none (playRefusal t plans ends (runIn run) picks answers) answers numbers inner)
+              there .answers
+              ∙ sym (leaves-none (playRefusal t plans ends (runIn run) picks answers) answers numbers inner)
               ∙ leaves-none refuses answers numbers none;
         }

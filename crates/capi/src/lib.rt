@@ -1,5 +1,6 @@
-// The C interface: every operation, thin over the proved ones; include/lawcheck.h documents it. Each function returns the refusal, or 0 for an
-// answer, whose numbers go to the front of `out`; a slice shorter than stated is refused with 14 before anything else.
+// The C interface: every operation, thin over the proved ones; include/lawcheck.h documents it.
+// Each function returns the refusal, or 0 for an answer, whose numbers go to the front of `out`; a
+// slice shorter than stated is refused with 14 before anything else.
 ghost use mathlib.Core.Path.{_≡_};
 ghost use mathlib.Core.Bool.{not, _||_};
 ghost use lib.ListN.{length, getD};
@@ -44,7 +45,10 @@ pub extern "C" fn lawcheck_task(t: &[u64]) -> u64
 
 #[no_mangle]
 pub extern "C" fn lawcheck_step(t: &[u64], action: u16, shared: &[u64], out: &mut [u64]) -> u64
-    ensures { λ r. ⌜ call r (now (out .exit)) ≡ called (not (eqb (length (now (shared .entry))) 1) || ltb (length (now (out .entry))) 2) numbers.decision (now (out .entry)) (step (now (t .entry)) action (getD (now (shared .entry)) 0 0)) ⌝ }
+    ensures { λ r. ⌜ call r (now (out .exit))
+        ≡ called (not (eqb (length (now (shared .entry))) 1) || ltb
+        (length (now (out .entry))) 2) numbers.decision (now (out .entry))
+        (step (now (t .entry)) action (getD (now (shared .entry)) 0 0)) ⌝ }
 {
     if shared.len() != MASK_WORDS {
         return SHORT;
@@ -67,7 +71,9 @@ pub extern "C" fn lawcheck_step(t: &[u64], action: u16, shared: &[u64], out: &mu
 
 #[no_mangle]
 pub extern "C" fn lawcheck_solo_replay(t: &[u64], member: u8, plan: &[u16], out: &mut [u64]) -> u64
-    ensures { λ r. ⌜ call r (now (out .exit)) ≡ called (ltb (length (now (out .entry))) 2) numbers.solo (now (out .entry)) (soloReplay (now (t .entry)) member (now (plan .entry))) ⌝ }
+    ensures { λ r. ⌜ call r (now (out .exit))
+        ≡ called (ltb (length (now (out .entry))) 2) numbers.solo (now (out .entry))
+        (soloReplay (now (t .entry)) member (now (plan .entry))) ⌝ }
 {
     if out.len() < 2 {
         return SHORT;
@@ -93,9 +99,18 @@ pub extern "C" fn lawcheck_solo_search(
     marks: &mut [u8],
     out: &mut [u64],
 ) -> u64
-    ensures { λ r. ⌜ call r (now (out .exit)) ≡ called (ltb (length (now (out .entry))) 2) numbers.searched (now (out .entry)) (soloSearch (now (t .entry)) member (now (table .entry)) (now (marks .entry)) .answer) ⌝ }
-    ensures { λ _. ⌜ now (table .exit) ≡ unlessShort (ltb (length (now (out .entry))) 2) (now (table .entry)) (soloSearch (now (t .entry)) member (now (table .entry)) (now (marks .entry)) .table) ⌝ }
-    ensures { λ _. ⌜ now (marks .exit) ≡ unlessShort (ltb (length (now (out .entry))) 2) (now (marks .entry)) (soloSearch (now (t .entry)) member (now (table .entry)) (now (marks .entry)) .marks) ⌝ }
+    ensures { λ r. ⌜ call r (now (out .exit))
+        ≡ called (ltb (length (now (out .entry))) 2) numbers.searched (now (out .entry))
+        (soloSearch (now (t .entry)) member (now (table .entry))
+        (now (marks .entry)) .answer) ⌝ }
+    ensures { λ _. ⌜ now (table .exit)
+        ≡ unlessShort (ltb (length (now (out .entry))) 2) (now (table .entry))
+        (soloSearch (now (t .entry)) member (now (table .entry))
+        (now (marks .entry)) .table) ⌝ }
+    ensures { λ _. ⌜ now (marks .exit)
+        ≡ unlessShort (ltb (length (now (out .entry))) 2) (now (marks .entry))
+        (soloSearch (now (t .entry)) member (now (table .entry))
+        (now (marks .entry)) .marks) ⌝ }
 {
     if out.len() < 2 {
         return SHORT;
@@ -121,7 +136,10 @@ pub extern "C" fn lawcheck_joint_replay(
     picks: &[u8],
     out: &mut [u64],
 ) -> u64
-    ensures { λ r. ⌜ call r (now (out .exit)) ≡ called (ltb (length (now (out .entry))) 4) numbers.replay (now (out .entry)) (jointReplay (now (t .entry)) (now (plans .entry)) (now (ends .entry)) (now (picks .entry))) ⌝ }
+    ensures { λ r. ⌜ call r (now (out .exit))
+        ≡ called (ltb (length (now (out .entry))) 4) numbers.replay (now (out .entry))
+        (jointReplay (now (t .entry)) (now (plans .entry)) (now (ends .entry))
+        (now (picks .entry))) ⌝ }
 {
     if out.len() < 4 {
         return SHORT;
@@ -150,8 +168,18 @@ pub extern "C" fn lawcheck_pick(
     member: u8,
     out: &mut [u64],
 ) -> u64
-    ensures { λ r. ⌜ call r (now (out .exit)) ≡ called (ltb (length (now (run .entry))) runWords || ltb (length (now (out .entry))) 1) numbers.picked (now (out .entry)) (pickOn (now (t .entry)) (now (plans .entry)) (now (ends .entry)) (runIn (now (run .entry))) member) ⌝ }
-    ensures { λ _. ⌜ now (run .exit) ≡ unlessShort (ltb (length (now (run .entry))) runWords || ltb (length (now (out .entry))) 1) (now (run .entry)) (after (now (run .entry)) (pickOn (now (t .entry)) (now (plans .entry)) (now (ends .entry)) (runIn (now (run .entry))) member)) ⌝ }
+    ensures { λ r. ⌜ call r (now (out .exit))
+        ≡ called (ltb (length (now (run .entry))) runWords || ltb
+        (length (now (out .entry))) 1) numbers.picked (now (out .entry))
+        (pickOn (now (t .entry)) (now (plans .entry)) (now (ends .entry))
+        (runIn (now (run .entry))) member) ⌝ }
+    ensures { λ _. ⌜ now (run .exit)
+        ≡ unlessShort
+        (ltb (length (now (run .entry))) runWords || ltb (length (now (out .entry))) 1)
+        (now (run .entry))
+        (after (now (run .entry))
+        (pickOn (now (t .entry)) (now (plans .entry)) (now (ends .entry))
+        (runIn (now (run .entry))) member)) ⌝ }
 {
     if run.len() < RUN_WORDS {
         return SHORT;
@@ -199,7 +227,8 @@ pub extern "C" fn lawcheck_play(
     picks: &[u8],
     answers: &mut [u64],
 ) -> u64
-    ensures { λ r. ⌜ PlayCall (now (t .entry)) (now (plans .entry)) (now (ends .entry)) (now (run .entry))
+    ensures { λ r. ⌜ PlayCall (now (t .entry)) (now (plans .entry)) (now (ends .entry))
+        (now (run .entry))
         (now (picks .entry)) (now (answers .entry)) r (now (run .exit)) (now (answers .exit)) ⌝ }
 {
     if run.len() < RUN_WORDS {
@@ -229,7 +258,12 @@ pub extern "C" fn lawcheck_verdict(
     picks: &mut [u8],
     out: &mut [u64],
 ) -> u64
-    ensures { λ r. ⌜ verdictCall (ltb (length (now (out .entry))) 3) (now (t .entry)) (lentOf (now (local .entry)) (now (marks .entry)) (now (confs .entry)) (now (trail .entry)) (now (plans .entry)) (now (ends .entry)) (now (picks .entry))) (lentOf (now (local .exit)) (now (marks .exit)) (now (confs .exit)) (now (trail .exit)) (now (plans .exit)) (now (ends .exit)) (now (picks .exit))) numbers.verdict (now (out .entry)) (call r (now (out .exit))) ⌝ }
+    ensures { λ r. ⌜ verdictCall (ltb (length (now (out .entry))) 3) (now (t .entry))
+        (lentOf (now (local .entry)) (now (marks .entry)) (now (confs .entry))
+        (now (trail .entry)) (now (plans .entry)) (now (ends .entry)) (now (picks .entry)))
+        (lentOf (now (local .exit)) (now (marks .exit)) (now (confs .exit)) (now (trail .exit))
+        (now (plans .exit)) (now (ends .exit)) (now (picks .exit))) numbers.verdict
+        (now (out .entry)) (call r (now (out .exit))) ⌝ }
 {
     if out.len() < 3 {
         return SHORT;
@@ -242,8 +276,12 @@ pub extern "C" fn lawcheck_verdict(
 
 #[no_mangle]
 pub extern "C" fn lawcheck_read(text: &[u8], words: &mut [u64], out: &mut [u64]) -> u64
-    ensures { λ r. ⌜ call r (now (out .exit)) ≡ called (ltb (length (now (out .entry))) 1) numbers.records (now (out .entry)) (readText (now (text .entry)) (now (words .entry)) .answer) ⌝ }
-    ensures { λ _. ⌜ now (words .exit) ≡ unlessShort (ltb (length (now (out .entry))) 1) (now (words .entry)) (readText (now (text .entry)) (now (words .entry)) .words) ⌝ }
+    ensures { λ r. ⌜ call r (now (out .exit))
+        ≡ called (ltb (length (now (out .entry))) 1) numbers.records (now (out .entry))
+        (readText (now (text .entry)) (now (words .entry)) .answer) ⌝ }
+    ensures { λ _. ⌜ now (words .exit)
+        ≡ unlessShort (ltb (length (now (out .entry))) 1) (now (words .entry))
+        (readText (now (text .entry)) (now (words .entry)) .words) ⌝ }
 {
     if out.len() < 1 {
         return SHORT;

@@ -47,4 +47,5 @@ module _ {before numbers slice : List ℕ} {i : ℕ} (p : Putting before numbers
       let e : i ≡ length numbers = omega arith in
       p .held
       ∙ ap (paste before 0 numbers) e
-      ∙ ap₂ (λ (x : List ℕ) (k : ℕ). x ++ drop k before) (take-all (length numbers) numbers (omega arith)) (zero-add (length numbers))
+      ∙ ap₂ (λ (x : List ℕ) (k : ℕ). x ++ drop k before) (take-all (length numbers) numbers (omega arith))
+      (zero-add (length numbers))

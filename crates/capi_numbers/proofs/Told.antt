@@ -31,7 +31,8 @@ use Rattle.capi_numbers.specs.Runs.{closedIn, closedWord, runIn, wordsOf
 
 -- ---- numbers
 
-pub goes : (d : Decision) (g : Shared) (w : ℕ) → d ≡ decision.Go g → w ≡ number (g .0) → 0 ∷ w ∷ [] ≡ numbers.decision (decisionOf d)
+pub goes : (d : Decision) (g : Shared) (w : ℕ) → d ≡ decision.Go g → w ≡ number (g .0)
+    → 0 ∷ w ∷ [] ≡ numbers.decision (decisionOf d)
 goes d g w is e = ap (λ (x : ℕ). 0 ∷ x ∷ []) e ∙ sym (ap (λ x. numbers.decision (decisionOf x)) is)
 
 pub breaks : (s : Solo) (k : ℕ) → s ≡ solo.Breaks k → 1 ∷ k ∷ [] ≡ numbers.solo (soloOf s)
@@ -86,7 +87,8 @@ entries l f (suc n) h =
     ∙ sym (slice-cons f (f + suc n) l 0 (omega arith) h)
 
 -- the run that ten words hold
-pub run-held : (words : List ℕ) (m : Mask) → number m ≡ getD words 9 0 → (c : Closed) → closedOf c ≡ closedIn (getD words 0 0)
+pub run-held : (words : List ℕ) (m : Mask) → number m ≡ getD words 9 0 → (c : Closed)
+    → closedOf c ≡ closedIn (getD words 0 0)
     → 10 ≤ length words
     → runOf (record {
       shared = record { 0 = m };
@@ -101,6 +103,8 @@ run-held words m e c is room =
 
 -- the words of a run
 pub words-held : (r : Run) (w : ℕ) → w ≡ number (r .shared .0) → (c : ℕ) → c ≡ closedWord (closedOf (r .closed))
-    → c ∷ getD (r .places) 0 0 ∷ getD (r .places) 1 0 ∷ getD (r .places) 2 0 ∷ getD (r .places) 3 0 ∷ getD (r .places) 4 0 ∷ getD (r .places) 5 0 ∷ getD (r .places) 6 0 ∷ getD (r .places) 7 0 ∷ w ∷ [] ≡ wordsOf (runOf r)
+    → c ∷ getD (r .places) 0 0 ∷ getD (r .places) 1 0 ∷ getD (r .places) 2 0 ∷ getD (r .places) 3 0 ∷ getD
+    (r .places) 4 0 ∷ getD (r .places) 5 0 ∷ getD (r .places) 6 0 ∷ getD (r .places) 7 0 ∷ w ∷ []
+    ≡ wordsOf (runOf r)
 unfolding numbersFrom
 words-held r w e c is = rw (is, e)

@@ -1,4 +1,5 @@
-// The C interface's numbers: what each answer is as numbers, a run as words, and numbers put to the front of a slice.
+// The C interface's numbers: what each answer is as numbers, a run as words, and numbers put to the
+// front of a slice.
 ghost use mathlib.Core.Path.{_≡_};
 ghost use mathlib.Core.List.{[], _∷_};
 ghost use Prim.Native.Nat.{_≤_};
@@ -150,7 +151,8 @@ pub fn done(words: &mut [u64], r: Run, out: &mut [u64], number: u64) -> u64
 // The numbers of a verdict that is no refusal.
 pub fn verdict_numbers(out: &mut [u64], kind: u64, member: usize, number: usize) -> u64
     requires { ⌜ 3 ≤ length (now out) ⌝ }
-    ensures { λ r. ⌜ call r (now (out .exit)) ≡ call 0 (front (kind ∷ member ∷ number ∷ []) (now (out .entry))) ⌝ }
+    ensures { λ r. ⌜ call r (now (out .exit))
+        ≡ call 0 (front (kind ∷ member ∷ number ∷ []) (now (out .entry))) ⌝ }
 {
     let numbers = [kind, member as u64, number as u64];
     put(out, &numbers);
@@ -160,7 +162,9 @@ pub fn verdict_numbers(out: &mut [u64], kind: u64, member: usize, number: usize)
 // The numbers of a fault, so many picks being done before it.
 fn failing_numbers(f: Failing, out: &mut [u64]) -> u64
     requires { ⌜ 3 ≤ length (now out) ⌝ }
-    ensures { λ r. ⌜ call r (now (out .exit)) ≡ call 0 (front (numbers.failing (faultOf (f .fault)) (f .picked)) (now (out .entry))) ⌝ }
+    ensures { λ r. ⌜ call r (now (out .exit))
+        ≡ call 0 (front (numbers.failing (faultOf (f .fault)) (f .picked))
+        (now (out .entry))) ⌝ }
 {
     let fault = f.fault;
     match fault {
@@ -173,7 +177,8 @@ fn failing_numbers(f: Failing, out: &mut [u64]) -> u64
 // The numbers of a verdict.
 fn given_numbers(v: Verdict, out: &mut [u64]) -> u64
     requires { ⌜ 3 ≤ length (now out) ⌝ }
-    ensures { λ r. ⌜ call r (now (out .exit)) ≡ call 0 (front (numbers.verdict (verdictOf v)) (now (out .entry))) ⌝ }
+    ensures { λ r. ⌜ call r (now (out .exit))
+        ≡ call 0 (front (numbers.verdict (verdictOf v)) (now (out .entry))) ⌝ }
 {
     match v {
         Verdict::Unsolvable(i) => verdict_numbers(out, 1, i, 0),
@@ -184,7 +189,8 @@ fn given_numbers(v: Verdict, out: &mut [u64]) -> u64
 
 pub fn tell(v: VerdictAnswer, out: &mut [u64]) -> u64
     requires { ⌜ 3 ≤ length (now out) ⌝ }
-    ensures { λ r. ⌜ call r (now (out .exit)) ≡ told numbers.verdict (now (out .entry)) (answerOf v) ⌝ }
+    ensures { λ r. ⌜ call r (now (out .exit))
+        ≡ told numbers.verdict (now (out .entry)) (answerOf v) ⌝ }
 {
     match v {
         VerdictAnswer::Refused(k) => k,

@@ -19,7 +19,8 @@ struct Input {
     failed: bool,
 }
 
-// One byte more than the longest text has: what fills the buffer is no text, and neither is what it is the front of.
+// One byte more than the longest text has: what fills the buffer is no text, and neither is what it
+// is the front of.
 const TEXT_ROOM: usize = program::MOST_TEXT + 1;
 
 // The `ensures` gives only the length, which lending the array as a slice needs.

@@ -39,7 +39,8 @@ pub first-words : (t : List ℕ) (n : ℕ) → take (wordsFor n) t ≡ inWords (
 first-words t n = refl
 
 -- one mask more
-pub first-suc : (t : List ℕ) (n : ℕ) → n < statesIn (length t) → firstMasks t (suc n) ≡ firstMasks t n ++ (maskAt t n ∷ [])
+pub first-suc : (t : List ℕ) (n : ℕ) → n < statesIn (length t)
+    → firstMasks t (suc n) ≡ firstMasks t n ++ (maskAt t n ∷ [])
 first-suc t n h = take-suc t n 0 h
 
 -- the mask at the front

@@ -15,7 +15,8 @@ use Rattle.program.specs.Program.{PrintsFor, Prints}
 
 refuses : (text : List ℕ) → mostBytes < length text → readText text (replicate mostWords 0) .answer ≡ refused 15
 refuses text long =
-    ap (λ (r : Reading). r .answer) (long-refused text (replicate mostWords 0) long (omega (arith, length-replicate {A = ℕ} mostWords 0)))
+    ap (λ (r : Reading). r .answer)
+    (long-refused text (replicate mostWords 0) long (omega (arith, length-replicate {A = ℕ} mostWords 0)))
 
 pub front-prints : (text bytes : List ℕ) → Prints (take (mostBytes + 1) text) bytes → Prints text bytes
 unfolding Prints
@@ -27,5 +28,6 @@ front-prints text bytes p =
     (refuses (take (mostBytes + 1) text) (omega (arith, length-take (mostBytes + 1) text)))
     p))
     (λ (short : length text ≤ mostBytes).
-    subst (λ (t : List ℕ). PrintsFor (readText t (replicate mostWords 0) .answer) t bytes) (take-all (mostBytes + 1) text (omega arith)) p)
+    subst (λ (t : List ℕ). PrintsFor (readText t (replicate mostWords 0) .answer) t bytes)
+    (take-all (mostBytes + 1) text (omega arith)) p)
     (lt-or-ge mostBytes (length text))

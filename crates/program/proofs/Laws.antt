@@ -1,4 +1,5 @@
--- Laws of the program: its slices' lengths, what a conflict's slices hold, and the words that the reader gives. Assumes nothing.
+-- Laws of the program: its slices' lengths, what a conflict's slices hold, and the words that the reader gives. Assumes
+-- nothing.
 use mathlib.Core.Path.{_≡_, refl, sym, ap, subst, _∙_}
 use mathlib.Core.Bool.{Bool, true, false, not, _&&_}
 use mathlib.Core.List.{List, [], _∷_, _++_, map, flatten}
@@ -17,7 +18,9 @@ use Rattle.semantics.specs.Text.{mostRecords, records, fields, number, isField,
 use Rattle.semantics.specs.Text.{refusedWith, readRecords, readText}
 use Rattle.semantics.specs.Run.{beginning, endsFit, plansOf, plansRefusal, Replay, replay, jointReplay}
 use Rattle.semantics.specs.System.{system, waits}
-use Rattle.semantics.specs.Verdict.{Verdict, unsolvable, notRobust, robust, Finding, Failing, Slices, room, tooShort, Conflict, listedFor, VerdictIs, VerdictMeans, localRows, configurationRows, verdictIn, verdict, lentOf}
+use Rattle.semantics.specs.Verdict.{Verdict, unsolvable, notRobust, robust, Finding, Failing, Slices, room, tooShort}
+use Rattle.semantics.specs.Verdict.{Conflict, listedFor, VerdictIs, VerdictMeans, localRows, configurationRows}
+use Rattle.semantics.specs.Verdict.{verdictIn, verdict, lentOf}
 use Rattle.theory.proofs.Laid.{Laid, laid-length}
 use Rattle.theory.proofs.Lists.{and-elim}
 use Rattle.theory.proofs.Refusals.{else-both, if-not-true, refused-gives, gives-inj, unless-gives}
@@ -29,7 +32,8 @@ use Rattle.text.specs.declared.TextRead.the-variants.{Records, Refused}
 use Rattle.run_plans.proofs.Laws.{part}
 use Rattle.report.specs.File.{word, header, line, file}
 use Rattle.report.specs.Inner.Put.{mostFile, Holds}
-use Rattle.program.specs.Program.{localWords, configurationWords, K, C, lentFor, Reports, PrintsFor, Prints, AtFront, mostBytes}
+use Rattle.program.specs.Program.{localWords, configurationWords, K, C, lentFor, Reports, PrintsFor, Prints}
+use Rattle.program.specs.Program.{AtFront, mostBytes}
 
 -- ---- lengths
 
@@ -39,7 +43,8 @@ rows-most n = mul-div-le localWords n
 
 pub configurations-most : (n : ℕ) → 1 ≤ n → configurationWords / (n + 1) ≤ 4096
 configurations-most n h =
-    let l : configurationWords / (n + 1) < 4097 = div-lt-iff-lt-mul {k = n + 1} {x = configurationWords} {y = 4097} (omega arith) .1 (omega arith) in
+    let l : configurationWords / (n + 1) < 4097 =
+    div-lt-iff-lt-mul {k = n + 1} {x = configurationWords} {y = 4097} (omega arith) .1 (omega arith) in
     omega arith
 
 -- the front of a slice of zeros
@@ -53,8 +58,10 @@ front-length n m h = sym (ap length (take-zeros n m h) ∙ length-replicate {A =
 
 -- the fronts of the program's slices are those that the verdict is lent
 pub lends : (t : List ℕ) → check t ≡ 0 → (n : ℕ) → n ≡ members t
-    → lentOf (replicate localWords 0) (take (n * (localWords / n)) (replicate 4096 0)) (replicate configurationWords 0) (take (2 * (configurationWords / (n + 1))) (replicate 8192 0))
-    (take (configurationWords / (n + 1) + n * (localWords / n)) (replicate 8192 0)) (take n (replicate 8 0)) (take (configurationWords / (n + 1)) (replicate 4096 0))
+    → lentOf (replicate localWords 0) (take (n * (localWords / n)) (replicate 4096 0)) (replicate configurationWords 0)
+    (take (2 * (configurationWords / (n + 1))) (replicate 8192 0))
+    (take (configurationWords / (n + 1) + n * (localWords / n)) (replicate 8192 0)) (take n (replicate 8 0))
+    (take (configurationWords / (n + 1)) (replicate 4096 0))
     ≡ lentFor t
 unfolding lentFor
 lends t ok n e =
@@ -94,20 +101,25 @@ long-enough t =
     same n = le-ltb n n (omega arith)
 
 -- so the verdict refuses an accepted task with 9, or not at all
-pub refused-nine : (t : List ℕ) → check t ≡ 0 → (after : Slices) (answer : Answer (Verdict Failing)) (k : ℕ) → VerdictMeans t (lentFor t) after answer → answer ≡ refused k → k ≡ 9
+pub refused-nine : (t : List ℕ) → check t ≡ 0 → (after : Slices) (answer : Answer (Verdict Failing)) (k : ℕ)
+    → VerdictMeans t (lentFor t) after answer → answer ≡ refused k → k ≡ 9
 unfolding verdict
 refused-nine t ok after answer k m e = at (verdict t (room (lentFor t))) refl m
   where
     found-in : Answer Finding
-    found-in = verdictIn (system t) (waits t) (localRows t (room (lentFor t) .localTable)) (configurationRows t (room (lentFor t) .configurationTable))
+    found-in =
+        verdictIn (system t) (waits t) (localRows t (room (lentFor t) .localTable))
+        (configurationRows t (room (lentFor t) .configurationTable))
 
     searched : verdict t (room (lentFor t)) ≡ found-in
     searched =
         let short = tooShort t (room (lentFor t)) in
-        ap (λ (r : ℕ). unless (r else (14 if short)) found-in) ok ∙ ap (λ (b : Bool). unless (14 if b) found-in) (long-enough t)
+        ap (λ (r : ℕ). unless (r else (14 if short)) found-in) ok
+        ∙ ap (λ (b : Bool). unless (14 if b) found-in) (long-enough t)
 
     nine : (j : ℕ) (x : Answer Finding)
-        → Found (system t) (waits t) (accepted-lawful t ok) (localRows t (room (lentFor t) .localTable)) (configurationRows t (room (lentFor t) .configurationTable)) x
+        → Found (system t) (waits t) (accepted-lawful t ok) (localRows t (room (lentFor t) .localTable))
+        (configurationRows t (room (lentFor t) .configurationTable)) x
         → x ≡ refused j → j ≡ 9
     nine j x (Found.copies-full h l) g = cc
     nine j x (Found.dead fits h dead lower) g = absurd (refused-gives (sym g))
@@ -118,7 +130,9 @@ refused-nine t ok after answer k m e = at (verdict t (room (lentFor t))) refl m
     at : (f : Answer Finding) → verdict t (room (lentFor t)) ≡ f → VerdictIs t (lentFor t) after answer f → k ≡ 9
     at (refused j) g m =
         let same : j ≡ k = cc (sym (m .0) ∙ e) in
-        sym same ∙ nine j found-in (found (system t) (waits t) (accepted-lawful t ok) (localRows t (room (lentFor t) .localTable)) (configurationRows t (room (lentFor t) .configurationTable))) (sym searched ∙ g)
+        sym same ∙ nine j found-in
+        (found (system t) (waits t) (accepted-lawful t ok) (localRows t (room (lentFor t) .localTable))
+        (configurationRows t (room (lentFor t) .configurationTable))) (sym searched ∙ g)
     at (gives (unsolvable i)) g m = absurd (refused-gives (sym e ∙ m .0))
     at (gives (robust c)) g m = absurd (refused-gives (sym e ∙ m .0))
     at (gives (notRobust u)) g m = absurd (refused-gives (sym e ∙ m .1))
@@ -141,19 +155,24 @@ padded-long : (m : ℕ) (xs : List ℕ) → length xs ≤ length (padded m xs)
 padded-long m xs = omega (arith, length-append xs (replicate (m - length xs) 0))
 
 -- what replays has ends that fit
-replays-fit : (t plans ends picks : List ℕ) {r : Replay ℕ} → jointReplay t plans ends picks ≡ gives r → endsFit (members t) plans ends ≡ true
+replays-fit : (t plans ends picks : List ℕ) {r : Replay ℕ} → jointReplay t plans ends picks ≡ gives r
+    → endsFit (members t) plans ends ≡ true
 unfolding jointReplay plansRefusal
 replays-fit t plans ends picks e =
-    let u = unless-gives (plansRefusal t plans ends) (replay (system t) (waits t) (plansOf (members t) plans ends) picks) e in
+    let u = unless-gives (plansRefusal t plans ends)
+    (replay (system t) (waits t) (plansOf (members t) plans ends) picks) e in
     if-not-true 10 _ (else-both (11 if not (endsFit (members t) plans ends)) _ (else-both (check t) _ (u .0) .1) .0)
 
 ends-many : (n : ℕ) (plans ends : List ℕ) → endsFit n plans ends ≡ true → length ends ≡ n
 unfolding endsFit
 ends-many n plans ends fit =
-    eqb-true (length ends) n (and-elim (eqb (length ends) n) _ (and-elim (eqb (length ends) n && allOf (λ j. leb (beginning ends j) (getD ends j 0)) (upTo n)) _ fit .0) .0)
+    eqb-true (length ends) n
+    (and-elim (eqb (length ends) n) _
+    (and-elim (eqb (length ends) n && allOf (λ j. leb (beginning ends j) (getD ends j 0)) (upTo n)) _ fit .0) .0)
 
 module _ (t : List ℕ) (before after : Slices) (answer : Answer (Verdict Failing)) where
-  conflict-holds : (told : Failing) (listed : ℕ) → Conflict t told listed before after → Holds (gives (notRobust told)) (members t) (after .plans) (after .ends) (after .picks)
+  conflict-holds : (told : Failing) (listed : ℕ) → Conflict t told listed before after
+      → Holds (gives (notRobust told)) (members t) (after .plans) (after .ends) (after .picks)
   conflict-holds told listed c =
       let n = members t in
       let fit : endsFit n (c .plans) (c .ends) ≡ true = replays-fit t (c .plans) (c .ends) (c .picks) (c .replays) in
@@ -180,14 +199,16 @@ module _ (t : List ℕ) (before after : Slices) (answer : Answer (Verdict Failin
   pub holds : VerdictMeans t before after answer → Holds answer (members t) (after .plans) (after .ends) (after .picks)
   holds = at (verdict t (room before))
     where
-      at : (f : Answer Finding) → VerdictIs t before after answer f → Holds answer (members t) (after .plans) (after .ends) (after .picks)
+      at : (f : Answer Finding) → VerdictIs t before after answer f
+          → Holds answer (members t) (after .plans) (after .ends) (after .picks)
       at (refused k) m = rw (m .0) tt
       at (gives (unsolvable i)) m = rw (m .0) tt
       at (gives (robust c)) m = rw (m .0) tt
       at (gives (notRobust u)) m = rw (m .1) (conflict-holds (m .0) (length (listedFor t before)) (m .3))
 
   -- the bytes that are laid are the file of the answer
-  pub reports : before ≡ lentFor t → VerdictMeans t before after answer → (n : ℕ) → n ≡ members t → (out out′ : List ℕ) (r : ℕ)
+  pub reports : before ≡ lentFor t → VerdictMeans t before after answer → (n : ℕ) → n ≡ members t
+      → (out out′ : List ℕ) (r : ℕ)
       → Laid (file answer n (after .plans) (after .ends) (after .picks)) out 0 out′ r → AtFront (Reports t) out out′ r
   reports lent means n e out out′ r l =
       record {
@@ -203,14 +224,22 @@ module _ (t : List ℕ) (before after : Slices) (answer : Answer (Verdict Failin
       }
 
   -- the file fits
-  pub file-fits : check t ≡ 0 → before ≡ lentFor t → length (after .plans) ≡ length (before .plans) → length (after .picks) ≡ length (before .picks)
+  pub file-fits : check t ≡ 0 → before ≡ lentFor t → length (after .plans) ≡ length (before .plans)
+      → length (after .picks) ≡ length (before .picks)
       → mostFile (1 + members t + length (after .plans) + length (after .picks)) ≤ mostBytes
   unfolding lentFor
   file-fits ok lent p q =
-      let e : length (before .plans) ≡ C t + members t * K t = ap (λ (l : Slices). length (l .plans)) lent ∙ length-replicate {A = ℕ} (C t + members t * K t) 0 in
-      let f : length (before .picks) ≡ C t = ap (λ (l : Slices). length (l .picks)) lent ∙ length-replicate {A = ℕ} (C t) 0 in
+      let e : length (before .plans) ≡ C t + members t * K t =
+      ap (λ (l : Slices). length (l .plans)) lent ∙ length-replicate {A = ℕ} (C t + members t * K t) 0 in
+      let f : length (before .picks) ≡ C t =
+      ap (λ (l : Slices). length (l .picks)) lent ∙ length-replicate {A = ℕ} (C t) 0 in
       let g : configurationWords / (members t + 1) ≡ C t = rw add-one in
-      omega (arith, rows-most (members t), configurations-most (members t) (accepted t ok .some-members), accepted t ok .few-members)
+      omega (
+        arith,
+        rows-most (members t),
+        configurations-most (members t) (accepted t ok .some-members),
+        accepted t ok .few-members,
+      )
 
 -- ---- the reader
 
@@ -225,7 +254,8 @@ words-length (r ∷ rs) h =
       arith,
       length-append (map number (fields r)) (flatten (map (λ r. map number (fields r)) rs)),
       length-map (fields r) number,
-      eqb-true (length (fields r)) rowWidth (and-elim (eqb (length (fields r)) rowWidth) (allOf isField (fields r)) a .0),
+      eqb-true (length (fields r)) rowWidth
+          (and-elim (eqb (length (fields r)) rowWidth) (allOf isField (fields r)) a .0),
       words-length rs b,
     )
 
@@ -236,11 +266,13 @@ pub record Words (text words out : List ℕ) (n : ℕ) : Type 0 where
   pub room : rowWidth * n ≤ length out
   pub words-read : take (rowWidth * n) out ≡ textWords text
 
-module _ (text words out : List ℕ) (long : mostWords ≤ length words) (r : TextRead) (e : reading r out ≡ readText text words) where
+module _ (text words out : List ℕ) (long : mostWords ≤ length words) (r : TextRead)
+    (e : reading r out ≡ readText text words) where
   pub words-of : (n : ℕ) → r ≡ Records n → Words text words out n
   unfolding readText readRecords textWords isText
   words-of n f =
-      let g : reading (Records n) out ≡ readText text words = subst (λ (q : TextRead). reading q out ≡ readText text words) f e in
+      let g : reading (Records n) out ≡ readText text words =
+      subst (λ (q : TextRead). reading q out ≡ readText text words) f e in
       let bad = 15 if not (isText rowWidth mostRecords text) in
       let (x, h) = unrefused words (14 if ltb (length words) mostWords) _ g in
       let (y, z) = unrefused (zeroed words) (bad else check (textWords text)) _ h in
@@ -253,8 +285,11 @@ module _ (text words out : List ℕ) (long : mostWords ≤ length words) (r : Te
       record {
         answer = sym (ap (λ (q : Reading). q .answer) g);
         task = k;
-        room = rw held (omega (arith, length-append (textWords text) (replicate (length words - length (textWords text)) 0)));
-        words-read = rw held (take-at (textWords text) (replicate (length words - length (textWords text)) 0) (rowWidth * n) same);
+        room = rw held
+            (omega (arith, length-append (textWords text) (replicate (length words - length (textWords text)) 0)));
+        words-read =
+            rw held (take-at (textWords text) (replicate (length words - length (textWords text)) 0)
+            (rowWidth * n) same);
       }
     where
       unrefused : (ws : List ℕ) (a : ℕ) (q : Reading) → reading (Records n) out ≡ (a leaves refusedWith ws otherwise q)
@@ -262,7 +297,8 @@ module _ (text words out : List ℕ) (long : mostWords ≤ length words) (r : Te
       unrefused ws (suc a) q g = absurd (refused-gives (sym (ap (λ (q : Reading). q .answer) g)))
       unrefused ws zero q g = (refl, g)
 
-module _ (text words out : List ℕ) (zeros : words ≡ replicate mostWords 0) (r : TextRead) (e : reading r out ≡ readText text words) where
+module _ (text words out : List ℕ) (zeros : words ≡ replicate mostWords 0) (r : TextRead)
+    (e : reading r out ≡ readText text words) where
   answered : readText text words .answer ≡ readText text (replicate mostWords 0) .answer
   answered = ap (λ (w : List ℕ). readText text w .answer) zeros
 
@@ -283,5 +319,6 @@ module _ (text words out : List ℕ) (zeros : words ≡ replicate mostWords 0) (
   unfolding Prints
   prints-refusal k f l =
       let bytes = header ++ line (word "refused") k in
-      let a : refused k ≡ readText text words .answer = ap (λ (q : TextRead). reading q out .answer) (sym f) ∙ ap (λ (q : Reading). q .answer) e in
+      let a : refused k ≡ readText text words .answer =
+      ap (λ (q : TextRead). reading q out .answer) (sym f) ∙ ap (λ (q : Reading). q .answer) e in
       record { bytes = bytes; means = subst (λ (a : Answer ℕ). PrintsFor a text bytes) (a ∙ answered) refl; laid = l }

@@ -62,6 +62,7 @@ pub record AtFront (P : List ℕ → Type 0) (before after : List ℕ) (r : ℕ)
   pub means : P bytes
   pub laid : Laid bytes before 0 after r
 
--- the bytes of the longest file: the verdict's line, eight plan lines, and lines for as many actions and picks as the slices hold
+-- the bytes of the longest file: the verdict's line, eight plan lines, and lines for as many actions and picks as the
+-- slices hold
 abbrev pub mostBytes : ℕ
 mostBytes = mostFile (1 + 8 + 8192 + 4096)

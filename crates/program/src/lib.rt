@@ -18,8 +18,8 @@ const CONFIGURATION_WORDS: usize = 8192;
 // The bytes of the longest text: 265 records of five fields of 20 digits, four commas and CR LF.
 pub const MOST_TEXT: usize = 265 * (5 * 20 + 4 + 2);
 
-// The bytes of the longest file: the line of column names, then lines of at most 33 bytes, one for the verdict, eight for plans, and as many for actions and picks
-// as the slices hold.
+// The bytes of the longest file: the line of column names, then lines of at most 33 bytes, one for
+// the verdict, eight for plans, and as many for actions and picks as the slices hold.
 pub const MOST_BYTES: usize = 16 + 33 * (1 + 8 + 8192 + 4096);
 
 // The file of the verdict on an accepted task, with zero slices of the program's lengths.
@@ -35,7 +35,8 @@ fn judge(
     out: &mut [u8],
 ) -> usize
     requires { ⌜ check (now t) ≡ 0 ⌝ }
-    requires { ⌜ lentOf (now local) (now marks) (now confs) (now trail) (now plans) (now ends) (now picks) ≡ lentFor (now t) ⌝ }
+    requires { ⌜ lentOf (now local) (now marks) (now confs) (now trail) (now plans) (now ends)
+        (now picks) ≡ lentFor (now t) ⌝ }
     requires { ⌜ mostBytes ≤ length (now out) ⌝ }
     ensures { λ r. ⌜ AtFront (Reports (now (t .entry))) (now (out .entry)) (now (out .exit)) r ⌝ }
 {

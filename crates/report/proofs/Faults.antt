@@ -40,15 +40,18 @@ module _ (f : Failing) (before : List ℕ) (at : ℕ) (after : List ℕ) (r : �
   within : (w : List ℕ) (v : ℕ) → length w ≤ 10 → v < 2 ^ 64 → Laid (line w v) before at after r → r ≤ at + mostLine
   within w v h k l = omega (arith, l .ends, line-short w v h k)
 
-  pub line-collision : f .fault ≡ Collision → f .picked < 2 ^ 64 → Laid (line (word "collision") (f .picked)) before at after r → LineLaid
+  pub line-collision : f .fault ≡ Collision → f .picked < 2 ^ 64
+      → Laid (line (word "collision") (f .picked)) before at after r → LineLaid
   unfolding word numbersFrom
   line-collision e k l = (rw e l, within (word "collision") (f .picked) (omega arith) k l)
 
-  pub line-deadlock : f .fault ≡ Deadlock → f .picked < 2 ^ 64 → Laid (line (word "deadlock") (f .picked)) before at after r → LineLaid
+  pub line-deadlock : f .fault ≡ Deadlock → f .picked < 2 ^ 64
+      → Laid (line (word "deadlock") (f .picked)) before at after r → LineLaid
   unfolding word numbersFrom
   line-deadlock e k l = (rw e l, within (word "deadlock") (f .picked) (omega arith) k l)
 
-  pub line-missed : (j : ℕ) → f .fault ≡ Missed j → j < 2 ^ 64 → Laid (line (word "missed") j) before at after r → LineLaid
+  pub line-missed : (j : ℕ) → f .fault ≡ Missed j → j < 2 ^ 64 → Laid (line (word "missed") j) before at after r
+      → LineLaid
   unfolding word numbersFrom
   line-missed j e k l = (rw e l, within (word "missed") j (omega arith) k l)
 
@@ -58,13 +61,15 @@ module _ (f : Failing) where
   pub count-collision : f .fault ≡ Collision → f .picked + 1 ≡ conflictPicks (faultOf (f .fault)) (f .picked)
   count-collision e = rw e
 
-  pub count-fits : (picks : List ℕ) → conflictPicks (faultOf (f .fault)) (f .picked) ≤ length picks → f .fault ≡ Collision
+  pub count-fits : (picks : List ℕ) → conflictPicks (faultOf (f .fault)) (f .picked) ≤ length picks
+      → f .fault ≡ Collision
       → f .picked + 1 ≤ length picks
   count-fits picks h e = rw (count-collision e) h
 
 -- ---- the line, then the conflict
 
-module _ (f : Failing) (n : ℕ) (plans ends picks : List ℕ) (holds : Holds (gives (notRobust (failingOf f))) n plans ends picks) where
+module _ (f : Failing) (n : ℕ) (plans ends picks : List ℕ)
+    (holds : Holds (gives (notRobust (failingOf f))) n plans ends picks) where
   pub holds-inside : Inside n plans ends
   holds-inside = holds .0
 
@@ -78,7 +83,8 @@ module _ (f : Failing) (n : ℕ) (plans ends picks : List ℕ) (holds : Holds (g
     module _ (before : List ℕ) (at : ℕ) (mid : List ℕ) (next : ℕ)
         (l : Laid (faultLine (faultOf (f .fault)) (f .picked)) before at mid next) where
       pub room-conflict : Room before (at + mostLine) (conflictOf (gives (notRobust (failingOf f))) n plans ends picks)
-          → next ≤ at + mostLine → length mid ≡ length before → Room mid next (conflictLines n plans ends (take count picks))
+          → next ≤ at + mostLine → length mid ≡ length before
+          → Room mid next (conflictLines n plans ends (take count picks))
       room-conflict room short kept = rw is (record { fits = omega (arith, room .fits) })
 
       pub failing-put : (after : List ℕ) (r : ℕ) → Laid (conflictLines n plans ends (take count picks)) mid next after r
@@ -93,11 +99,13 @@ module _ (n : ℕ) (plans ends picks out : List ℕ) (at : ℕ) where
     one-line = omega (arith, room .fits)
 
     module _ (f : Failing) (e : v ≡ NotRobust f) where
-      pub verdict-holds : Holds (gives (verdictOf v)) n plans ends picks → Holds (gives (notRobust (failingOf f))) n plans ends picks
+      pub verdict-holds : Holds (gives (verdictOf v)) n plans ends picks
+          → Holds (gives (notRobust (failingOf f))) n plans ends picks
       verdict-holds h = subst (λ (x : Verdict). Holds (gives (verdictOf x)) n plans ends picks) e h
 
       pub verdict-room : Room out (at + mostLine) (conflictOf (gives (notRobust (failingOf f))) n plans ends picks)
-      verdict-room = subst (λ (x : Verdict). Room out (at + mostLine) (conflictOf (gives (verdictOf x)) n plans ends picks)) e room
+      verdict-room =
+          subst (λ (x : Verdict). Room out (at + mostLine) (conflictOf (gives (verdictOf x)) n plans ends picks)) e room
 
   module _ (v : Verdict) (after : List ℕ) (r : ℕ) where
     abbrev VerdictPut : Type 0
@@ -106,7 +114,8 @@ module _ (n : ℕ) (plans ends picks out : List ℕ) (at : ℕ) where
     pub put-unsolvable : (i : ℕ) → v ≡ Unsolvable i → Laid (line (word "unsolvable") i) out at after r → VerdictPut
     put-unsolvable i e l = rw e l
 
-    pub put-not-robust : (f : Failing) → v ≡ NotRobust f → Laid (body (gives (notRobust (failingOf f))) n plans ends picks) out at after r
+    pub put-not-robust : (f : Failing) → v ≡ NotRobust f
+        → Laid (body (gives (notRobust (failingOf f))) n plans ends picks) out at after r
         → VerdictPut
     put-not-robust f e l = rw e l
 
@@ -122,7 +131,8 @@ module _ (n : ℕ) (plans ends picks out : List ℕ) (at : ℕ) where
       answer-holds h = subst (λ (x : VerdictAnswer). Holds (answerOf x) n plans ends picks) e h
 
       pub answer-room : Room out (at + mostLine) (conflictOf (gives (verdictOf v)) n plans ends picks)
-      answer-room = subst (λ (x : VerdictAnswer). Room out (at + mostLine) (conflictOf (answerOf x) n plans ends picks)) e room
+      answer-room =
+          subst (λ (x : VerdictAnswer). Room out (at + mostLine) (conflictOf (answerOf x) n plans ends picks)) e room
 
   module _ (a : VerdictAnswer) (after : List ℕ) (r : ℕ) where
     abbrev AnswerPut : Type 0
@@ -131,5 +141,6 @@ module _ (n : ℕ) (plans ends picks out : List ℕ) (at : ℕ) where
     pub put-refused : (k : ℕ) → a ≡ Refused k → Laid (line (word "refused") k) out at after r → AnswerPut
     put-refused k e l = rw e l
 
-    pub put-given : (v : Verdict) → a ≡ Gives v → Laid (body (gives (verdictOf v)) n plans ends picks) out at after r → AnswerPut
+    pub put-given : (v : Verdict) → a ≡ Gives v → Laid (body (gives (verdictOf v)) n plans ends picks) out at after r
+        → AnswerPut
     put-given v e l = rw e l

@@ -46,7 +46,8 @@ digits-bound (suc k) (suc m) n h g =
     at (ltb n 10) (λ e. let l : 10 ≤ n = ltb-false n 10 e in digits-bound k m (n / 10) (omega arith) (omega arith))
   where
     at : (b : Bool) → (b ≡ false → digitsIn k (n / 10) ≡ digitsIn m (n / 10))
-        → cond b ((48 + n) ∷ []) (digitsIn k (n / 10) ++ ((48 + n % 10) ∷ [])) ≡ cond b ((48 + n) ∷ []) (digitsIn m (n / 10) ++ ((48 + n % 10) ∷ []))
+        → cond b ((48 + n) ∷ []) (digitsIn k (n / 10) ++ ((48 + n % 10) ∷ []))
+        ≡ cond b ((48 + n) ∷ []) (digitsIn m (n / 10) ++ ((48 + n % 10) ∷ []))
     at true f = refl
     at false f = ap (λ (l : List ℕ). l ++ ((48 + n % 10) ∷ [])) (f refl)
 
@@ -65,7 +66,9 @@ digits-more n h = go n (omega arith) (omega arith)
     go : (k : ℕ) → n ≤ k → 10 ≤ k → digitsIn k n ≡ digits (n / 10) ++ ((48 + n % 10) ∷ [])
     go zero g l = absurd (omega arith)
     go (suc k) g l =
-        rw (le-ltb n 10 h) (ap (λ (ds : List ℕ). ds ++ ((48 + n % 10) ∷ [])) (digits-bound k (n / 10) (n / 10) (omega arith) (omega arith)))
+        rw (le-ltb n 10 h)
+        (ap (λ (ds : List ℕ). ds ++ ((48 + n % 10) ∷ []))
+        (digits-bound k (n / 10) (n / 10) (omega arith) (omega arith)))
 
 -- ---- lines
 
@@ -77,14 +80,20 @@ digits-length : (k v : ℕ) → v < 10 ^ suc k → length (digits v) ≤ suc k
 digits-length zero v h = omega (arith, ap length (digits-one v (omega arith)))
 digits-length (suc k) v h =
     ⊎-elim (λ (l : v < 10). omega (arith, ap length (digits-one v l)))
-    (λ (l : 10 ≤ v). omega (arith, ap length (digits-more v l), length-append (digits (v / 10)) ((48 + v % 10) ∷ []), digits-length k (v / 10) (omega (arith, pow-suc 10 (suc k)))))
+    (λ (l : 10 ≤ v). omega (
+      arith,
+      ap length (digits-more v l),
+      length-append (digits (v / 10)) ((48 + v % 10) ∷ []),
+      digits-length k (v / 10) (omega (arith, pow-suc 10 (suc k))),
+    ))
     (lt-or-ge v 10)
 
 -- a word of at most ten letters with a 64-bit number makes a line of at most 33 bytes
 pub line-short : (w : List ℕ) (v : ℕ) → length w ≤ 10 → v < 2 ^ 64 → length (line w v) ≤ mostLine
 line-short w v h l = omega (arith, line-length w v, digits-length 19 v (omega arith))
 
-pub line-room : (out : List ℕ) (at : ℕ) (w : List ℕ) (v : ℕ) → length w ≤ 10 → v < 2 ^ 64 → at + mostLine ≤ length out → Room out at (line w v)
+pub line-room : (out : List ℕ) (at : ℕ) (w : List ℕ) (v : ℕ) → length w ≤ 10 → v < 2 ^ 64 → at + mostLine ≤ length out
+    → Room out at (line w v)
 line-room out at w v h l r = record { fits = omega (arith, line-short w v h l) }
 
 -- ---- a line for each entry
@@ -92,7 +101,8 @@ line-room out at w v h l r = record { fits = omega (arith, line-short w v h l) }
 abbrev pub spread : (ℕ → List ℕ) → List ℕ → List ℕ
 spread f xs = flatten (map f xs)
 
-pub spread-at : (f : ℕ → List ℕ) (xs : List ℕ) (i : ℕ) → i < length xs → spread f (drop i xs) ≡ f (getD xs i 0) ++ spread f (drop (i + 1) xs)
+pub spread-at : (f : ℕ → List ℕ) (xs : List ℕ) (i : ℕ) → i < length xs
+    → spread f (drop i xs) ≡ f (getD xs i 0) ++ spread f (drop (i + 1) xs)
 unfolding flatten
 spread-at f xs i h = rw (add-one, drop-cons xs i 0)
 
@@ -144,7 +154,8 @@ spread-bytes (x ∷ xs) = ap (λ (l : List ℕ). x ∷ l) (spread-bytes xs)
 
 -- ---- a member's plan
 
-pub plan-part : (plans ends : List ℕ) (i from to : ℕ) → from ≡ beginning ends i → to ≡ getD ends i 0 → slice from to plans ≡ planOf plans ends i
+pub plan-part : (plans ends : List ℕ) (i from to : ℕ) → from ≡ beginning ends i → to ≡ getD ends i 0
+    → slice from to plans ≡ planOf plans ends i
 plan-part plans ends i from to f t = ap₂ (λ (a e : ℕ). slice a e plans) f t
 
 -- ---- the conflict's lines are short
@@ -169,19 +180,23 @@ lines-short w (x ∷ xs) k h =
     omega (arith, length-append (line w x) (lines w xs), line-short w x k (h 0), lines-short w xs k (λ i. h (suc i)))
 
 module _ (n : ℕ) (plans ends : List ℕ) (p : Inside n plans ends) (few : n ≤ 2 ^ 64) (h : Small plans) where
-  plan-short : (j : ℕ) → j < n → length (planLines plans ends j) + mostLine * beginning ends j ≤ mostLine * (1 + getD ends j 0)
+  plan-short : (j : ℕ) → j < n
+      → length (planLines plans ends j) + mostLine * beginning ends j ≤ mostLine * (1 + getD ends j 0)
   unfolding word numbersFrom
   plan-short j l =
       omega (
         arith,
         length-append (line (word "plan") j) (lines (word "action") (planOf plans ends j)),
         line-short (word "plan") j (omega arith) (omega arith),
-        lines-short (word "action") (planOf plans ends j) (omega arith) (small-slice (beginning ends j) (getD ends j 0) plans h),
+        lines-short (word "action") (planOf plans ends j) (omega arith)
+            (small-slice (beginning ends j) (getD ends j 0) plans h),
         length-slice (beginning ends j) (getD ends j 0) plans (p .within j l),
         p .ordered j l,
       )
 
-  plans-short : (k c : ℕ) → k + c ≤ n → length (spread (planLines plans ends) (numbersFrom k c)) + mostLine * beginning ends k ≤ mostLine * (c + beginning ends (k + c))
+  plans-short : (k c : ℕ) → k + c ≤ n
+      → length (spread (planLines plans ends) (numbersFrom k c)) + mostLine * beginning ends k ≤ mostLine *
+      (c + beginning ends (k + c))
   unfolding numbersFrom flatten
   plans-short k zero g = let z : k ≡ k + 0 = omega arith in omega (arith, ap (beginning ends) z)
   plans-short k (suc c) g =
@@ -194,14 +209,16 @@ module _ (n : ℕ) (plans ends : List ℕ) (p : Inside n plans ends) (few : n �
         plans-short (suc k) c (omega arith),
       )
 
-  pub conflict-short : (picks : List ℕ) → Small picks → length (conflictLines n plans ends picks) ≤ mostLine * (n + length plans + length picks)
+  pub conflict-short : (picks : List ℕ) → Small picks
+      → length (conflictLines n plans ends picks) ≤ mostLine * (n + length plans + length picks)
   unfolding plansLines word numbersFrom
   conflict-short picks s =
       let z : 0 + n ≡ n = omega arith in
       omega (
         arith,
         length-append (plansLines n plans ends) (lines (word "pick") picks),
-        subst (λ (m : ℕ). length (plansLines n plans ends) + mostLine * 0 ≤ mostLine * (n + beginning ends m)) z (plans-short 0 n (omega arith)),
+        subst (λ (m : ℕ). length (plansLines n plans ends) + mostLine * 0 ≤ mostLine * (n + beginning ends m)) z
+            (plans-short 0 n (omega arith)),
         lines-short (word "pick") picks (omega arith) s,
         last n p,
       )
@@ -210,11 +227,17 @@ module _ (n : ℕ) (plans ends : List ℕ) (p : Inside n plans ends) (few : n �
       last zero q = omega arith
       last (suc m) q = q .within m (omega arith)
 
-pub conflict-most : (answer : Answer (Verdict Failing)) (n : ℕ) (plans ends picks : List ℕ) → Holds answer n plans ends picks → n ≤ 2 ^ 64 → Small plans → Small picks
+pub conflict-most : (answer : Answer (Verdict Failing)) (n : ℕ) (plans ends picks : List ℕ)
+    → Holds answer n plans ends picks → n ≤ 2 ^ 64 → Small plans → Small picks
     → length (conflictOf answer n plans ends picks) ≤ mostLine * (n + length plans + length picks)
 conflict-most (refused k) n plans ends picks h f s t = omega arith
 conflict-most (gives (unsolvable i)) n plans ends picks h f s t = omega arith
 conflict-most (gives (robust c)) n plans ends picks h f s t = omega arith
 conflict-most (gives (notRobust told)) n plans ends picks h f s t =
     let k = conflictPicks (told .fault) (told .picked) in
-    omega (arith, h .1, length-take-le k picks (h .1), conflict-short n plans ends (h .0) f s (take k picks) (small-take k picks t))
+    omega (
+      arith,
+      h .1,
+      length-take-le k picks (h .1),
+      conflict-short n plans ends (h .0) f s (take k picks) (small-take k picks t),
+    )

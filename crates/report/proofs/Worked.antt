@@ -16,7 +16,9 @@ l1-file : file (gives (robust 12)) 2 [] [] [] ≡ row "verdict,number" ++ row "r
 unfolding word numbersFrom digitsIn
 l1-file = refl
 
-l2-file : file (gives (notRobust (record { fault = Fault.collision; picked = 1 }))) 2 (0 ∷ 1 ∷ 2 ∷ 3 ∷ []) (2 ∷ 4 ∷ []) (0 ∷ 1 ∷ [])
-    ≡ row "verdict,number" ++ row "collision,1" ++ row "plan,0" ++ row "action,0" ++ row "action,1" ++ row "plan,1" ++ row "action,2" ++ row "action,3" ++ row "pick,0" ++ row "pick,1"
+l2-file : file (gives (notRobust (record { fault = Fault.collision; picked = 1 }))) 2 (0 ∷ 1 ∷ 2 ∷ 3 ∷ []) (2 ∷ 4 ∷ [])
+    (0 ∷ 1 ∷ [])
+    ≡ row "verdict,number" ++ row "collision,1" ++ row "plan,0" ++ row "action,0" ++ row "action,1" ++ row "plan,1"
+    ++ row "action,2" ++ row "action,3" ++ row "pick,0" ++ row "pick,1"
 unfolding word numbersFrom digitsIn lines plansLines flatten
 l2-file = refl

@@ -12,7 +12,8 @@ ghost use Rattle.semantics.specs.Base.{gives};
 ghost use Rattle.semantics.specs.Verdict.{notRobust, conflictPicks};
 ghost use Rattle.fault.specs.Value.{faultOf, failingOf, verdictOf};
 ghost use Rattle.verdict.specs.Value.{answerOf};
-ghost use Rattle.report.specs.File.{word, header, line, lines, planLines, plansLines, conflictLines, faultLine, body, file};
+ghost use Rattle.report.specs.File.{word, header, line, lines, planLines, plansLines};
+ghost use Rattle.report.specs.File.{conflictLines, faultLine, body, file};
 ghost use Rattle.report.specs.Inner.Put.{mostLine, mostFile, Room, Inside, Holds, conflictOf};
 use fault::Failing;
 use fault::Fault;
@@ -78,7 +79,8 @@ fn wider(x: u8) -> u64
 // A line for each action of a plan.
 fn put_actions(out: &mut [u8], at: usize, word: &[u8], plan: &[u16]) -> usize
     requires { ⌜ Room (now out) at (lines (now word) (now plan)) ⌝ }
-    ensures { λ r. ⌜ Laid (lines (now (word .entry)) (now (plan .entry))) (now (out .entry)) at (now (out .exit)) r ⌝ }
+    ensures { λ r. ⌜ Laid (lines (now (word .entry)) (now (plan .entry))) (now (out .entry)) at
+        (now (out .exit)) r ⌝ }
 {
     let mut next = at;
     let mut i = 0;
@@ -92,7 +94,8 @@ fn put_actions(out: &mut [u8], at: usize, word: &[u8], plan: &[u16]) -> usize
 // A line for each pick.
 fn put_picks(out: &mut [u8], at: usize, word: &[u8], picks: &[u8]) -> usize
     requires { ⌜ Room (now out) at (lines (now word) (now picks)) ⌝ }
-    ensures { λ r. ⌜ Laid (lines (now (word .entry)) (now (picks .entry))) (now (out .entry)) at (now (out .exit)) r ⌝ }
+    ensures { λ r. ⌜ Laid (lines (now (word .entry)) (now (picks .entry))) (now (out .entry)) at
+        (now (out .exit)) r ⌝ }
 {
     let mut next = at;
     let mut i = 0;
@@ -159,7 +162,8 @@ fn put_conflict(
 ) -> usize
     requires { ⌜ Inside n (now plans) (now ends) ⌝ }
     requires { ⌜ Room (now out) at (conflictLines n (now plans) (now ends) (now picks)) ⌝ }
-    ensures { λ r. ⌜ Laid (conflictLines n (now (plans .entry)) (now (ends .entry)) (now (picks .entry)))
+    ensures { λ r. ⌜ Laid
+        (conflictLines n (now (plans .entry)) (now (ends .entry)) (now (picks .entry)))
         (now (out .entry)) at (now (out .exit)) r ⌝ }
 {
     let next = put_plans(out, at, n, plans, ends);
@@ -176,14 +180,16 @@ fn put_header(out: &mut [u8]) -> usize
 
 fn put_refused(out: &mut [u8], at: usize, refusal: u64) -> usize
     requires { ⌜ at + mostLine ≤ length (now out) ⌝ }
-    ensures { λ r. ⌜ Laid (line (word "refused") refusal) (now (out .entry)) at (now (out .exit)) r ⌝ }
+    ensures { λ r. ⌜ Laid (line (word "refused") refusal) (now (out .entry)) at
+        (now (out .exit)) r ⌝ }
 {
     put_line(out, at, b"refused", refusal)
 }
 
 fn put_unsolvable(out: &mut [u8], at: usize, member: usize) -> usize
     requires { ⌜ at + mostLine ≤ length (now out) ⌝ }
-    ensures { λ r. ⌜ Laid (line (word "unsolvable") member) (now (out .entry)) at (now (out .exit)) r ⌝ }
+    ensures { λ r. ⌜ Laid (line (word "unsolvable") member) (now (out .entry)) at
+        (now (out .exit)) r ⌝ }
 {
     put_line(out, at, b"unsolvable", member as u64)
 }
@@ -198,7 +204,8 @@ fn put_robust(out: &mut [u8], at: usize, count: usize) -> usize
 // A fault's line.
 fn put_fault(out: &mut [u8], at: usize, f: Failing) -> usize
     requires { ⌜ at + mostLine ≤ length (now out) ⌝ }
-    ensures { λ r. ⌜ Laid (faultLine (faultOf (f .fault)) (f .picked)) (now (out .entry)) at (now (out .exit)) r ⌝ }
+    ensures { λ r. ⌜ Laid (faultLine (faultOf (f .fault)) (f .picked)) (now (out .entry)) at
+        (now (out .exit)) r ⌝ }
     ensures { λ r. ⌜ r ≤ at + mostLine ⌝ }
 {
     let fault = f.fault;
@@ -234,8 +241,11 @@ fn put_failing(
     picks: &[u8],
 ) -> usize
     requires { ⌜ Holds (gives (notRobust (failingOf f))) n (now plans) (now ends) (now picks) ⌝ }
-    requires { ⌜ Room (now out) (at + mostLine) (conflictOf (gives (notRobust (failingOf f))) n (now plans) (now ends) (now picks)) ⌝ }
-    ensures { λ r. ⌜ Laid (body (gives (notRobust (failingOf f))) n (now (plans .entry)) (now (ends .entry)) (now (picks .entry)))
+    requires { ⌜ Room (now out) (at + mostLine)
+        (conflictOf (gives (notRobust (failingOf f))) n (now plans) (now ends) (now picks)) ⌝ }
+    ensures { λ r. ⌜ Laid
+        (body (gives (notRobust (failingOf f))) n (now (plans .entry)) (now (ends .entry))
+        (now (picks .entry)))
         (now (out .entry)) at (now (out .exit)) r ⌝ }
 {
     let next = put_fault(out, at, f);
@@ -254,8 +264,11 @@ fn put_verdict(
     picks: &[u8],
 ) -> usize
     requires { ⌜ Holds (gives (verdictOf v)) n (now plans) (now ends) (now picks) ⌝ }
-    requires { ⌜ Room (now out) (at + mostLine) (conflictOf (gives (verdictOf v)) n (now plans) (now ends) (now picks)) ⌝ }
-    ensures { λ r. ⌜ Laid (body (gives (verdictOf v)) n (now (plans .entry)) (now (ends .entry)) (now (picks .entry)))
+    requires { ⌜ Room (now out) (at + mostLine)
+        (conflictOf (gives (verdictOf v)) n (now plans) (now ends) (now picks)) ⌝ }
+    ensures { λ r. ⌜ Laid
+        (body (gives (verdictOf v)) n (now (plans .entry)) (now (ends .entry))
+        (now (picks .entry)))
         (now (out .entry)) at (now (out .exit)) r ⌝ }
 {
     match v {
@@ -276,8 +289,10 @@ fn put_body(
     picks: &[u8],
 ) -> usize
     requires { ⌜ Holds (answerOf answer) n (now plans) (now ends) (now picks) ⌝ }
-    requires { ⌜ Room (now out) (at + mostLine) (conflictOf (answerOf answer) n (now plans) (now ends) (now picks)) ⌝ }
-    ensures { λ r. ⌜ Laid (body (answerOf answer) n (now (plans .entry)) (now (ends .entry)) (now (picks .entry)))
+    requires { ⌜ Room (now out) (at + mostLine)
+        (conflictOf (answerOf answer) n (now plans) (now ends) (now picks)) ⌝ }
+    ensures { λ r. ⌜ Laid
+        (body (answerOf answer) n (now (plans .entry)) (now (ends .entry)) (now (picks .entry)))
         (now (out .entry)) at (now (out .exit)) r ⌝ }
 {
     match answer {
@@ -289,7 +304,8 @@ fn put_body(
 // The file of a refusal, at the slice's front; the rest is as it was.
 pub fn put_refusal(out: &mut [u8], refusal: u64) -> usize
     requires { ⌜ mostFile 1 ≤ length (now out) ⌝ }
-    ensures { λ r. ⌜ Laid (header ++ line (word "refused") refusal) (now (out .entry)) 0 (now (out .exit)) r ⌝ }
+    ensures { λ r. ⌜ Laid (header ++ line (word "refused") refusal) (now (out .entry)) 0
+        (now (out .exit)) r ⌝ }
 {
     let at = put_header(out);
     put_refused(out, at, refusal)
@@ -307,7 +323,8 @@ pub fn put_file(
 ) -> usize
     requires { ⌜ Holds (answerOf answer) n (now plans) (now ends) (now picks) ⌝ }
     requires { ⌜ mostFile (1 + n + length (now plans) + length (now picks)) ≤ length (now out) ⌝ }
-    ensures { λ r. ⌜ Laid (file (answerOf answer) n (now (plans .entry)) (now (ends .entry)) (now (picks .entry)))
+    ensures { λ r. ⌜ Laid
+        (file (answerOf answer) n (now (plans .entry)) (now (ends .entry)) (now (picks .entry)))
         (now (out .entry)) 0 (now (out .exit)) r ⌝ }
 {
     let next = put_header(out);

@@ -1,8 +1,11 @@
--- A call of `run_dispatch::pick` on a local run: the local is lent for a lifetime of the call, and comes back at what `pick` ensures. Each caller of `pick` cites this, and it says nothing of the caller.
---     Pick, to       `pick`'s contract as a triple, and what it binds outside: the local at (b, 0) lent for the lifetime α under the name δ, at the run h
---     lends-pick     the local's cell, the slices' tokens and what the slices own  ⊢ ⇛ ∃ α δ. what the lender keeps ∗ what `pick` asks
---     takes-back     what `pick` leaves ∗ what the lender keeps  ⊢ ⇛ ∃ p. the local's cell at the next run ∗ the slices' tokens, with `Met`, what is known of p, in hand
--- Assumes `Given`.
+-- A call of `run_dispatch::pick` on a local run: the local is lent for a lifetime of the call, and comes back at what
+-- `pick` ensures. Each caller of `pick` cites this, and it says nothing of the caller.
+-- Pick, to `pick`'s contract as a triple, and what it binds outside: the local at (b, 0) lent for the lifetime α under
+-- the name δ, at the run h
+-- lends-pick the local's cell, the slices' tokens and what the slices own ⊢ ⇛ ∃ α δ. what the lender keeps ∗ what
+-- `pick` asks
+-- takes-back what `pick` leaves ∗ what the lender keeps ⊢ ⇛ ∃ p. the local's cell at the next run ∗ the slices' tokens,
+-- with `Met`, what is known of p, in hand Assumes `Given`.
 use mathlib.Core.Path.{refl}
 use Prim.Native.Nat.{ℕ, _<_, _^_}
 use mathlib.Core.List.{[], _∷_, List}
@@ -17,7 +20,8 @@ use prog.Routine.{Routine}
 use prog.Wp.{Heap}
 use ghost.Atoms.{Atoms, sem}
 use contract.Monad.{Fun, fact}
-use types.Kit.{Given, Item, ‵, raw, some, later, _⊛_, ⋆, _$_, _∵_, !, qed, move, keep, drop, use1, use3, split, join, pick, fsplit, fjoin, fpick, fpack, check, suffices, frame, await, updating, now as at-once, done}
+use types.Kit.{Given, Item, ‵, raw, some, later, _⊛_, ⋆, _$_, _∵_, !, qed, move, keep, drop, use1, use3, split, join}
+use types.Kit.{pick, fsplit, fjoin, fpick, fpack, check, suffices, frame, await, updating, now as at-once, done}
 use types.SemTy.{Body}
 use types.Tokens.{lft-new, lft-end}
 use denote.Laws.{Is, shows}
@@ -60,7 +64,16 @@ module _ {M : Type 1} (𝓤 : URA M) (H : Heap 𝓤) (A : Atoms 𝓤) (at-mem : 
     args δ = (s₀, (s₁, (s₂, (record { ptr = (b, 0); name = δ; now = h }, (n, tt)))))
 
     abbrev pub to : ℕ → GName → Pick .Ghost
-    to α δ = (((κ₀, (κ₁, (κ₂, (α ∷ [], tt)))), (q₀, (q₁, (q₂, (fullShare, tt)))), tt, args δ, (sliced s₀ ∷ [], (sliced s₁ ∷ [], (sliced s₂ ∷ [], (vptr b 0 ∷ [], (vint w8 n ∷ [], tt)))))), tt)
+    to α δ = (
+      (
+        (κ₀, (κ₁, (κ₂, (α ∷ [], tt)))),
+        (q₀, (q₁, (q₂, (fullShare, tt)))),
+        tt,
+        args δ,
+        (sliced s₀ ∷ [], (sliced s₁ ∷ [], (sliced s₂ ∷ [], (vptr b 0 ∷ [], (vint w8 n ∷ [], tt))))),
+      ),
+      tt,
+    )
 
     abbrev pub Aside : ℕ → GName → Fml
     Aside α δ = flent (α ∷ []) (Body (mem T.the-row) b 0 δ)
@@ -70,23 +83,34 @@ module _ {M : Type 1} (𝓤 : URA M) (H : Heap 𝓤) (A : Atoms 𝓤) (at-mem : 
 
     -- what is lent and passed, and what is asked of it
     abbrev pub passed : List (Item 𝓤)
-    passed = ‵ (Cell b h) ∷ ‵ (flft κ₀ q₀) ∷ ‵ (flft κ₁ q₁) ∷ ‵ (flft κ₂ q₂) ∷ ‵ (Task κ₀ s₀) ∷ ‵ (Plans κ₁ s₁) ∷ ‵ (Ends κ₂ s₂) ∷ []
+    passed = ‵ (Cell b h) ∷ ‵ (flft κ₀ q₀) ∷ ‵ (flft κ₁ q₁) ∷ ‵ (flft κ₂ q₂) ∷ ‵ (Task κ₀ s₀) ∷ ‵ (Plans κ₁ s₁) ∷ ‵
+        (Ends κ₂ s₂) ∷ []
 
     module _ (W : Given 𝓤 H A) where
       pub lends-pick : n < 2 ^ 8 → Is T.the-row h (mach h ∷ [])
-          → ent 𝓤 (⋆ 𝓤 H A passed) (H .⇛ (ex 𝓤 (λ (α : ℕ). ex 𝓤 (λ (δ : GName). sep 𝓤 (sem 𝓤 H A (Aside α δ)) (Pick .pre (to α δ))))))
+          → ent 𝓤 (⋆ 𝓤 H A passed)
+          (H .⇛ (ex 𝓤 (λ (α : ℕ). ex 𝓤 (λ (δ : GName). sep 𝓤 (sem 𝓤 H A (Aside α δ)) (Pick .pre (to α δ))))))
       unfolding partOf
       lends-pick fits is =
-          qed W passed ∵ updating ! $ use1 W (‵ (cellAt fullShare (T.the-row .mir) (mach h ∷ []) b 0)) (W .laws .at-raw fullShare T′.mir b 0 (mach h)) $
-          owned ! T.the-row (Is T.the-row) (LL.makes T.the-type T′.the-plain 𝓤 H A) h _ is $ move ! (1 ∷ 0 ∷ []) $ fjoin ! $
-          fpack ! (List Val) (λ us. fsep (cellAt fullShare (T.the-row .mir) us b 0) (T.the-row .own h us)) (mach h ∷ []) $
-          lft-new ! tt (λ α. move ! (1 ∷ []) $ use1 W (later (some (λ (δ : GName). ‵ (Lent δ α) ⊛ ‵ (Aside α δ)))) (lends-ref 𝓤 H A W T.the-row (named 3) (α ∷ []) h b 0) $ await ! tt $ pick ! (λ δ. split ! $ at-once ! $
+          qed W passed ∵ updating ! $ use1 W (‵ (cellAt fullShare (T.the-row .mir) (mach h ∷ []) b 0))
+          (W .laws .at-raw fullShare T′.mir b 0 (mach h)) $
+          owned ! T.the-row (Is T.the-row) (LL.makes T.the-type T′.the-plain 𝓤 H A) h _ is $ move !
+          (1 ∷ 0 ∷ []) $ fjoin ! $
+          fpack ! (List Val) (λ us. fsep (cellAt fullShare (T.the-row .mir) us b 0) (T.the-row .own h us))
+          (mach h ∷ []) $
+          lft-new ! tt
+          (λ α. move ! (1 ∷ []) $ use1 W (later (some (λ (δ : GName). ‵ (Lent δ α) ⊛ ‵ (Aside α δ))))
+          (lends-ref 𝓤 H A W T.the-row (named 3) (α ∷ []) h b 0) $ await ! tt $ pick ! (λ δ. split ! $ at-once ! $
           -- [the reference; the lender's part; its token; the slices' tokens; what the slices own]
-          suffices ! (sep 𝓤 (sem 𝓤 H A (Aside α δ)) (Pick .pre (to α δ))) (via 𝓤 _ (exI 𝓤 (λ (δ′ : GName). sep 𝓤 (sem 𝓤 H A (Aside α δ′)) (Pick .pre (to α δ′))) δ)
+          suffices ! (sep 𝓤 (sem 𝓤 H A (Aside α δ)) (Pick .pre (to α δ)))
+          (via 𝓤 _ (exI 𝓤 (λ (δ′ : GName). sep 𝓤 (sem 𝓤 H A (Aside α δ′)) (Pick .pre (to α δ′))) δ)
           (exI 𝓤 (λ (α′ : ℕ). ex 𝓤 (λ (δ′ : GName). sep 𝓤 (sem 𝓤 H A (Aside α′ δ′)) (Pick .pre (to α′ δ′)))) α)) $
-          move ! (1 ∷ []) $ frame ! $ nothing ! $ move ! (2 ∷ 0 ∷ []) $ join ! $ move ! (4 ∷ 0 ∷ []) $ join ! $ move ! (3 ∷ 0 ∷ []) $ join ! $ move ! (2 ∷ 0 ∷ []) $ join ! $
-          nothing ! $ owned ! u8 (Is u8) (uint-makes 𝓤 H A W w8) n _ (refl, fits) $ fjoin ! $ move ! (2 ∷ 0 ∷ []) $ fjoin ! $
-          move ! (4 ∷ 0 ∷ []) $ fjoin ! $ move ! (3 ∷ 0 ∷ []) $ fjoin ! $ move ! (2 ∷ 0 ∷ []) $ fjoin ! $ move ! (1 ∷ 0 ∷ []) $ join ! $ frame ! $ done !))
+          move ! (1 ∷ []) $ frame ! $ nothing ! $ move ! (2 ∷ 0 ∷ []) $ join ! $ move ! (4 ∷ 0 ∷ []) $ join ! $ move !
+          (3 ∷ 0 ∷ []) $ join ! $ move ! (2 ∷ 0 ∷ []) $ join ! $
+          nothing ! $ owned ! u8 (Is u8) (uint-makes 𝓤 H A W w8) n _ (refl, fits) $ fjoin ! $ move !
+          (2 ∷ 0 ∷ []) $ fjoin ! $
+          move ! (4 ∷ 0 ∷ []) $ fjoin ! $ move ! (3 ∷ 0 ∷ []) $ fjoin ! $ move ! (2 ∷ 0 ∷ []) $ fjoin ! $ move !
+          (1 ∷ 0 ∷ []) $ join ! $ frame ! $ done !))
 
       pub takes-back : (α : ℕ) (δ : GName) (v : Val) → ent 𝓤 (sep 𝓤 (Pick .post (to α δ) v) (sem 𝓤 H A (Aside α δ)))
           (H .⇛ (ex 𝓤 (λ (p : Picked). guard 𝓤 (Met s₀ s₁ s₂ h n v p)
@@ -94,22 +118,38 @@ module _ {M : Type 1} (𝓤 : URA M) (H : Heap 𝓤) (A : Atoms 𝓤) (at-mem : 
       unfolding partOf
       takes-back α δ v =
           qed W (raw (Pick .post (to α δ) v) ∷ ‵ (Aside α δ) ∷ []) ∵ updating ! $
-          use1 W (later (some (λ (r : Answer). ((‵ (flft κ₀ q₀) ⊛ ‵ (flft κ₁ q₁) ⊛ ‵ (flft κ₂ q₂) ⊛ ‵ (flft (α ∷ []) fullShare) ⊛ ‵ ftrue) ⊛ ‵ (N.the-row .own r (v ∷ [])))
-          ⊛ raw (ensured 𝓤 H A f.ended (f.clauses 𝓤 H A at-mem run) (κ₀, (κ₁, (κ₂, (α ∷ [], tt)))) (args δ) tt r)))) (id⊢ 𝓤 _) $ await ! tt $ pick ! (λ r.
+          use1 W (later
+          (some (λ (r : Answer). ((‵ (flft κ₀ q₀) ⊛ ‵ (flft κ₁ q₁) ⊛ ‵ (flft κ₂ q₂) ⊛ ‵
+          (flft (α ∷ []) fullShare) ⊛ ‵ ftrue) ⊛ ‵ (N.the-row .own r (v ∷ [])))
+          ⊛ raw (ensured 𝓤 H A f.ended (f.clauses 𝓤 H A at-mem run) (κ₀, (κ₁, (κ₂, (α ∷ [], tt)))) (args δ) tt r))))
+          (id⊢ 𝓤 _) $ await ! tt $ pick ! (λ r.
           split ! $ move ! (1 ∷ []) $
-          use1 W (some (λ (ws : Unit {0} × (Unit {0} × (Unit {0} × (Run × (Unit {0} × Unit {0}))))). ‵ (lasts f.ended (κ₀, (κ₁, (κ₂, (α ∷ [], tt)))) (args δ) ws)
-          ⊛ raw (fact 𝓤 (LentMeans (pickOn (now s₀) (now s₁) (now s₂) (runOf h) n) h r (ws .1 .1 .1 .0))))) (id⊢ 𝓤 _) $ pick ! (λ ws.
-          split ! $ move ! (1 ∷ []) $ heard ! (LentMeans (pickOn (now s₀) (now s₁) (now s₂) (runOf h) n) h r (ws .1 .1 .1 .0)) (λ m.
+          use1 W (some
+          (λ (ws : Unit {0} × (Unit {0} × (Unit {0} × (Run × (Unit {0} × Unit {0}))))). ‵
+          (lasts f.ended (κ₀, (κ₁, (κ₂, (α ∷ [], tt)))) (args δ) ws)
+          ⊛ raw (fact 𝓤 (LentMeans (pickOn (now s₀) (now s₁) (now s₂) (runOf h) n) h r (ws .1 .1 .1 .0)))))
+          (id⊢ 𝓤 _) $ pick ! (λ ws.
+          split ! $ move ! (1 ∷ []) $ heard !
+          (LentMeans (pickOn (now s₀) (now s₁) (now s₂) (runOf h) n) h r (ws .1 .1 .1 .0)) (λ m.
           let p : Picked = record { answer = r; run = ws .1 .1 .1 .0 } in
           fsplit ! $ drop ! $ fsplit ! $ drop ! $ fsplit ! $ drop ! $ fsplit ! $
           -- [the last run; true; the tokens and the answer; the lender's part]
-          move ! (2 ∷ []) $ split ! $ split ! $ move ! (1 ∷ []) $ split ! $ move ! (1 ∷ []) $ split ! $ move ! (1 ∷ []) $ split ! $
-          move ! (5 ∷ []) $ peeks ! N.the-row (Is N.the-row) (shows 𝓤 H A N.the-row) (p .answer) (v ∷ []) (λ ia. drop ! $
+          move ! (2 ∷ []) $ split ! $ split ! $ move ! (1 ∷ []) $ split ! $ move ! (1 ∷ []) $ split ! $ move !
+          (1 ∷ []) $ split ! $
+          move ! (5 ∷ []) $ peeks ! N.the-row (Is N.the-row) (shows 𝓤 H A N.the-row) (p .answer) (v ∷ [])
+          (λ ia. drop ! $
           -- [the lifetime's token; true; the slices' tokens, last first; the last run; true; the lender's part]
-          lft-end ! tt $ move ! (0 ∷ 7 ∷ 5 ∷ []) $ use3 W (later (‵ (partAt T.the-row fullShare (p .run) b 0))) (ref-back 𝓤 H A W T.the-row (α ∷ []) δ (p .run) b 0) $ await ! tt $
-          fpick ! (λ vs. fsplit ! $ spelt ! T.the-row (Is T.the-row) (shows 𝓤 H A T.the-row) (LL.vals T.the-type T′.the-laws) (LL.tells T.the-type T′.the-laws) fullShare (p .run) vs b 0 $
-          move ! (1 ∷ []) $ peeks ! T.the-row (Is T.the-row) (shows 𝓤 H A T.the-row) (p .run) (mach (p .run) ∷ []) (λ ir. drop ! $
+          lft-end ! tt $ move ! (0 ∷ 7 ∷ 5 ∷ []) $ use3 W (later (‵ (partAt T.the-row fullShare (p .run) b 0)))
+          (ref-back 𝓤 H A W T.the-row (α ∷ []) δ (p .run) b 0) $ await ! tt $
+          fpick ! (λ vs. fsplit ! $ spelt ! T.the-row (Is T.the-row) (shows 𝓤 H A T.the-row)
+          (LL.vals T.the-type T′.the-laws) (LL.tells T.the-type T′.the-laws) fullShare (p .run) vs b 0 $
+          move ! (1 ∷ []) $ peeks ! T.the-row (Is T.the-row) (shows 𝓤 H A T.the-row) (p .run) (mach (p .run) ∷ [])
+          (λ ir. drop ! $
           use1 W (‵ (Cell b (p .run))) (W .laws .raw-at fullShare T′.mir b 0 (mach (p .run))) $ at-once ! $
-          suffices ! (guard 𝓤 (Met s₀ s₁ s₂ h n v p) (sep 𝓤 (sem 𝓤 H A (Cell b (p .run))) (sep 𝓤 (A .lft κ₀ q₀) (sep 𝓤 (A .lft κ₁ q₁) (A .lft κ₂ q₂)))))
-          (exI 𝓤 (λ (p′ : Picked). guard 𝓤 (Met s₀ s₁ s₂ h n v p′) (sep 𝓤 (sem 𝓤 H A (Cell b (p′ .run))) (sep 𝓤 (A .lft κ₀ q₀) (sep 𝓤 (A .lft κ₁ q₁) (A .lft κ₂ q₂))))) p) $
-          check ! (record { answer = m .answers; after = m .leaves }, ia, ir) $ keep ! (0 ∷ 4 ∷ 3 ∷ 2 ∷ []) $ done !))))))
+          suffices !
+          (guard 𝓤 (Met s₀ s₁ s₂ h n v p)
+          (sep 𝓤 (sem 𝓤 H A (Cell b (p .run))) (sep 𝓤 (A .lft κ₀ q₀) (sep 𝓤 (A .lft κ₁ q₁) (A .lft κ₂ q₂)))))
+          (exI 𝓤 (λ (p′ : Picked). guard 𝓤 (Met s₀ s₁ s₂ h n v p′)
+          (sep 𝓤 (sem 𝓤 H A (Cell b (p′ .run))) (sep 𝓤 (A .lft κ₀ q₀) (sep 𝓤 (A .lft κ₁ q₁) (A .lft κ₂ q₂))))) p) $
+          check ! (record { answer = m .answers; after = m .leaves }, ia, ir) $ keep !
+          (0 ∷ 4 ∷ 3 ∷ 2 ∷ []) $ done !))))))

@@ -10,7 +10,8 @@ use Rattle.run_pick.specs.declared.Run.{Run}
 use Rattle.run_pick.specs.declared.Answer.{Answer}
 
 -- a pick on a lent run: its answer, and the run at exit: as it was where the pick is refused
-pub record LentMeans (meaning : Base.Answer (Paper.Replied ℕ)) (entry : Run) (answer : Answer) (exit : Run) : Type 0 where
+pub record LentMeans (meaning : Base.Answer (Paper.Replied ℕ)) (entry : Run) (answer : Answer)
+    (exit : Run) : Type 0 where
   pub answers : answerOf answer ≡ replies meaning
   pub leaves : runOf exit ≡ passOver (runOf entry) meaning
 

@@ -41,7 +41,9 @@ pub fn start(t: &[u64]) -> Started
 
 // A pick that updates the run, for every input.
 pub fn pick(t: &[u64], plans: &[u16], ends: &[u64], run: &mut Run, member: u8) -> Answer
-    ensures { λ r. ⌜ LentMeans (pickOn (now (t .entry)) (now (plans .entry)) (now (ends .entry)) (runOf (now (run .entry))) member)
+    ensures { λ r. ⌜ LentMeans
+        (pickOn (now (t .entry)) (now (plans .entry)) (now (ends .entry))
+        (runOf (now (run .entry))) member)
         (now (run .entry)) r (now (run .exit)) ⌝ }
 {
     let p = run_replay::pick(t, plans, ends, *run, member);
@@ -51,7 +53,9 @@ pub fn pick(t: &[u64], plans: &[u16], ends: &[u64], run: &mut Run, member: u8) -
 
 // A run that is lent for one pick.
 pub fn once(t: &[u64], plans: &[u16], ends: &[u64], run: Run, member: u8) -> Picked
-    ensures { λ r. ⌜ PickMeans (pickOn (now (t .entry)) (now (plans .entry)) (now (ends .entry)) (runOf run) member) run r ⌝ }
+    ensures { λ r. ⌜ PickMeans
+        (pickOn (now (t .entry)) (now (plans .entry)) (now (ends .entry))
+        (runOf run) member) run r ⌝ }
 {
     let mut lent = run;
     let answer = pick(t, plans, ends, &mut lent, member);
@@ -65,7 +69,8 @@ pub fn once(t: &[u64], plans: &[u16], ends: &[u64], run: Run, member: u8) -> Pic
 // may be handed in, and it comes back as it was where there is a refusal.
 pub fn play(t: &[u64], plans: &[u16], ends: &[u64], run: Run, picks: &[u8]) -> Played
     ensures { λ r. ⌜ RunMeans
-        (playOn (now (t .entry)) (now (plans .entry)) (now (ends .entry)) (runOf run) (now (picks .entry)))
+        (playOn (now (t .entry)) (now (plans .entry)) (now (ends .entry)) (runOf run)
+        (now (picks .entry)))
         (runOf run) (r .refusal) (r .run) ⌝ }
 {
     let mut none: [u64; 1] = [0];

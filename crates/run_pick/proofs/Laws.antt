@@ -17,7 +17,8 @@ use Rattle.semantics.specs.Mask.{within}
 use Rattle.semantics.specs.System.{system, waits}
 use Rattle.semantics.specs.Step.{routine}
 use Rattle.semantics.specs.Run as Paper
-use Rattle.semantics.specs.Run.{not-yet, isClosed, rest, advance, given, runAfter, counted, tally, start, missedIn, pickStep, pick, pickable, stepsLeft, outcome, replayOn, replay, planOf, plansRefusal}
+use Rattle.semantics.specs.Run.{not-yet, isClosed, rest, advance, given, runAfter, counted, tally, start, missedIn}
+use Rattle.semantics.specs.Run.{pickStep, pick, pickable, stepsLeft, outcome, replayOn, replay, planOf, plansRefusal}
 use Rattle.semantics.specs.Run.{pastEnd}
 use Rattle.theory.proofs.Accepted.{accepted}
 use Rattle.theory.proofs.Plans.{checked-task, rest-is, rest-length}
@@ -32,7 +33,8 @@ use Rattle.step.specs.Value.{decisionOf}
 use Rattle.step.specs.declared.Decision.{Decision}
 use Rattle.step.specs.declared.Decision.the-variants as decision
 use Rattle.run_plans.proofs.UpTo.{Onward, any-holds, any-onward, any-ends, decides, passes, stops}
-use Rattle.run_pick.specs.Inner.Meaning.{plansIn, pickIn, pickableIn, stepsLeftIn, outcomeIn, replayOnIn, replayIn}
+use Rattle.run_pick.specs.Inner.Meaning.{plansIn, pickIn, pickableIn, stepsLeftIn, outcomeIn, replayOnIn}
+use Rattle.run_pick.specs.Inner.Meaning.{replayIn}
 use Rattle.run_pick.specs.Value.{closedOf, runOf, replyOf, answerOf, replies, PickMeans}
 use Rattle.run_pick.specs.declared.Run.{Run}
 use Rattle.run_pick.specs.declared.Answer.{Answer}
@@ -93,11 +95,18 @@ module _ (run : Run) (j : ℕ) (d : Decision) where
   way-waits q p m = rw q m
 
   pub way-collides : d ≡ decision.Collision
-      → Advances (record { answer = Gives Collision; run = record { shared = run .shared; places = run .places; closed = By Crash } })
+      → Advances
+      (record {
+        answer = Gives Collision;
+        run =
+            record { shared = run .shared; places = run .places; closed = By Crash };
+      })
   way-collides q = rw q (record { answer = refl; after = refl })
 
-  pub way-goes : (g : Shared) → d ≡ decision.Go g → (to : ℕ) → to ≡ getD (run .places) j 0 + 1 → j < 8 → length (run .places) ≡ 8
-      → Advances (record { answer = Gives Go; run = record { shared = g; places = set (run .places) j to; closed = NotYet } })
+  pub way-goes : (g : Shared) → d ≡ decision.Go g → (to : ℕ) → to ≡ getD (run .places) j 0 + 1 → j < 8
+      → length (run .places) ≡ 8
+      → Advances
+      (record { answer = Gives Go; run = record { shared = g; places = set (run .places) j to; closed = NotYet } })
   way-goes g q to e h wide =
       rw q
       (record {
@@ -128,10 +137,12 @@ module _ (t plans ends : List ℕ) (run : Run) (j n : ℕ) (e : n ≡ members t)
     its : j < members t
     its = omega arith
 
-    pub way-closed : (b : Bool) → b ≡ isClosed (closedOf (run .closed)) → b ≡ true → (p : Picked) → PickMeans (refused 13) run p → Means p
+    pub way-closed : (b : Bool) → b ≡ isClosed (closedOf (run .closed)) → b ≡ true → (p : Picked)
+        → PickMeans (refused 13) run p → Means p
     way-closed b is c = refused-means 13 run _ (pick-closed t plans ends (runOf run) j its (sym is ∙ c))
 
-    module _ (b : Bool) (is : b ≡ isClosed (closedOf (run .closed))) (c : b ≡ false) (k m : ℕ) (e₁ : k ≡ getD (run .places) j 0) (e₂ : m ≡ length (planOf plans ends j)) where
+    module _ (b : Bool) (is : b ≡ isClosed (closedOf (run .closed))) (c : b ≡ false) (k m : ℕ)
+        (e₁ : k ≡ getD (run .places) j 0) (e₂ : m ≡ length (planOf plans ends j)) where
       runs : closedOf (run .closed) ≡ not-yet
       runs = open-is (run .closed) (sym is ∙ c)
 
@@ -142,7 +153,8 @@ module _ (t plans ends : List ℕ) (run : Run) (j n : ℕ) (e : n ≡ members t)
           (e₄ : decisionOf d ≡ routine (system t) (waits t) a (sharedNumber (run .shared))) where
         answers : pickIn t plans ends (runOf run) j ≡ advance (runOf run) j (decisionOf d)
         answers =
-            let q : routine (system t) (waits t) (getD (planOf plans ends j) (getD (run .places) j 0) 0) (sharedNumber (run .shared)) ≡ decisionOf d = rw (← e₁, ← e₃) (sym e₄) in
+            let q : routine (system t) (waits t) (getD (planOf plans ends j) (getD (run .places) j 0) 0)
+            (sharedNumber (run .shared)) ≡ decisionOf d = rw (← e₁, ← e₃) (sym e₄) in
             pick-decides t plans ends (runOf run) j its runs (omega arith) ∙ ap (advance (runOf run) j) q
 
         pub way-decided : (p : Picked) → PickMeans (advance (runOf run) j (decisionOf d)) run p → Means p
@@ -155,7 +167,8 @@ module _ {a : Base.Answer (Paper.Replied ℕ)} {run : Run} {p : Picked} (m : Pic
   means-gives x e = at a (sym (ap answerOf e) ∙ m .answer) (m .after)
     where
       at : (b : Base.Answer (Paper.Replied ℕ)) → gives (replyOf x) ≡ replies b
-          → runOf (p .run) ≡ Paper.passOver (runOf run) b → b ≡ gives (record { reply = replyOf x; run = runOf (p .run) })
+          → runOf (p .run) ≡ Paper.passOver (runOf run) b
+          → b ≡ gives (record { reply = replyOf x; run = runOf (p .run) })
       at (refused k) q w = absurd (refused-gives (sym q))
       at (gives r) q w = λ i. gives (record { reply = sym (gives-inj q) i; run = sym w i })
 
@@ -220,10 +233,14 @@ module _ (t plans ends : List ℕ) (run : Run) where
     module _ (r : Onward (anyOf isPast) (members t) j) where
       module _ (h : j < n) (k m : ℕ) (q : k ≡ getD (run .places) j 0) (q₁ : m ≡ length (planOf plans ends j)) where
         pub past-found : m < k → true ≡ pastEnd t plans ends (runOf run)
-        past-found l = sym (any-holds isPast (members t) j r (omega arith) (lt-ltb (length (planOf plans ends j)) (getD (run .places) j 0) (omega arith)))
+        past-found l =
+            sym (any-holds isPast (members t) j r (omega arith)
+            (lt-ltb (length (planOf plans ends j)) (getD (run .places) j 0) (omega arith)))
 
         pub past-onward : k ≤ m → Onward (anyOf isPast) (members t) (j + 1)
-        past-onward l = any-onward isPast (members t) j r (omega arith) (le-ltb (length (planOf plans ends j)) (getD (run .places) j 0) (omega arith))
+        past-onward l =
+            any-onward isPast (members t) j r (omega arith)
+            (le-ltb (length (planOf plans ends j)) (getD (run .places) j 0) (omega arith))
 
       pub past-none : n ≤ j → false ≡ pastEnd t plans ends (runOf run)
       past-none h = sym (any-ends isPast (members t) j r (omega arith))
@@ -232,7 +249,9 @@ module _ (t : List ℕ) (g n j : ℕ) (e : n ≡ members t) (r : Onward (missedI
   module _ (h : j < n) (w : ℕ) (q : w ≡ goal t j) (b : Bool) (q₁ : b ≡ within w g) where
     pub missed-found : not b ≡ true → Paper.failure (Paper.missed j) ≡ missedIn (system t) g (upTo (members t))
     unfolding missedIn
-    missed-found h₁ = sym (decides (missedIn (system t) g) (members t) r (omega arith) (Paper.failure (Paper.missed j)) (rw (← q, ← q₁, not-true b h₁)))
+    missed-found h₁ =
+        sym (decides (missedIn (system t) g) (members t) r (omega arith) (Paper.failure (Paper.missed j))
+        (rw (← q, ← q₁, not-true b h₁)))
 
     pub missed-onward : not b ≡ false → Onward (missedIn (system t) g) (members t) (j + 1)
     unfolding missedIn
@@ -259,7 +278,8 @@ module _ (t plans ends : List ℕ) (run : Run) where
       unfolding outcome
       out-deadlock h₂ = rw (← q, h₁, ← q₁, h₂, h)
 
-      pub out-rest : c ≡ false → (o : Paper.Outcome) → o ≡ missedIn (system t) (sharedNumber (run .shared)) (upTo (members t))
+      pub out-rest : c ≡ false → (o : Paper.Outcome)
+          → o ≡ missedIn (system t) (sharedNumber (run .shared)) (upTo (members t))
           → o ≡ outcomeIn t plans ends (runOf run)
       unfolding outcome
       out-rest h₂ o q₂ = rw (← q, h₁, ← q₁, h₂, h) q₂
@@ -300,7 +320,9 @@ module _ (t plans ends picks : List ℕ) where
   module _ (run : Run) (k i : ℕ) (r : Replaying t plans ends picks run k i) where
     module _ (h : i < length picks) where
       turn : replayIn t plans ends picks
-          ≡ (let a = pickIn t plans ends (runOf run) (getD picks i 0) in replayOnIn t plans ends (runAfter a) (tally k a) (drop (i + 1) picks))
+          ≡ (let a =
+          pickIn t plans ends (runOf run) (getD picks i 0) in
+          replayOnIn t plans ends (runAfter a) (tally k a) (drop (i + 1) picks))
       unfolding replayOn
       turn = r .rest ∙ rw (drop-cons picks i 0 h, add-one i)
 

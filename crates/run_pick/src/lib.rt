@@ -1,15 +1,19 @@
-// Runs of an accepted task with checked plans: a single pick, a run's outcome, and a list of picks from the start.
+// Runs of an accepted task with checked plans: a single pick, a run's outcome, and a list of picks
+// from the start.
 ghost use mathlib.Core.Path.{_≡_};
 ghost use Prim.Native.Nat.{_+_, _^_, _<_};
 ghost use lib.ListN.{getD};
 ghost use Rattle.semantics.specs.Base.{upTo, refused};
 ghost use Rattle.semantics.specs.Task.{check, members};
 ghost use Rattle.semantics.specs.System.{system};
-ghost use Rattle.semantics.specs.Run.{isClosed, advance, given, counted, start, missedIn, plansRefusal, pastEnd};
+ghost use Rattle.semantics.specs.Run.{isClosed, advance, given, counted, start, missedIn};
+ghost use Rattle.semantics.specs.Run.{plansRefusal, pastEnd};
 ghost use Rattle.mask.specs.Number.{sharedNumber};
 ghost use Rattle.step.specs.Value.{decisionOf};
-ghost use Rattle.run_pick.specs.Value.{closedOf, runOf, replyOf, outcomeOf, replayedOf, PickMeans};
-ghost use Rattle.run_pick.specs.Inner.Meaning.{pickIn, pickableIn, stepsLeftIn, outcomeIn, replayIn};
+ghost use Rattle.run_pick.specs.Value.{closedOf, runOf, replyOf, outcomeOf, replayedOf};
+ghost use Rattle.run_pick.specs.Value.{PickMeans};
+ghost use Rattle.run_pick.specs.Inner.Meaning.{pickIn, pickableIn, stepsLeftIn, outcomeIn};
+ghost use Rattle.run_pick.specs.Inner.Meaning.{replayIn};
 use fault::Fault;
 use mask::Shared;
 use step::Decision;
@@ -53,7 +57,8 @@ pub enum Outcome {
     Open,
 }
 
-// What a list of picks comes to: the outcome, the shared copy, and the picks done, a collision pick not counted.
+// What a list of picks comes to: the outcome, the shared copy, and the picks done, a collision pick
+// not counted.
 pub struct Replay {
     pub outcome: Outcome,
     pub shared: Shared,
@@ -136,7 +141,9 @@ fn advance(run: Run, j: usize, to: u64, d: Decision) -> Picked
 // A pick of member j. The routine that step has decides it.
 pub fn pick(t: &[u64], plans: &[u16], ends: &[u64], run: Run, j: usize) -> Picked
     requires { ⌜ plansRefusal (now t) (now plans) (now ends) ≡ 0 ⌝ }
-    ensures { λ r. ⌜ PickMeans (pickIn (now (t .entry)) (now (plans .entry)) (now (ends .entry)) (runOf run) j) run r ⌝ }
+    ensures { λ r. ⌜ PickMeans
+        (pickIn (now (t .entry)) (now (plans .entry)) (now (ends .entry))
+        (runOf run) j) run r ⌝ }
 {
     if task::members(t) <= j {
         return refuse(run, 8);
@@ -159,7 +166,9 @@ pub fn pick(t: &[u64], plans: &[u16], ends: &[u64], run: Run, j: usize) -> Picke
 // Member j can be picked.
 fn possible(t: &[u64], plans: &[u16], ends: &[u64], run: Run, j: usize) -> bool
     requires { ⌜ plansRefusal (now t) (now plans) (now ends) ≡ 0 ⌝ }
-    ensures { λ r. ⌜ r ≡ given (pickIn (now (t .entry)) (now (plans .entry)) (now (ends .entry)) (runOf run) j) ⌝ }
+    ensures { λ r. ⌜ r
+        ≡ given (pickIn (now (t .entry)) (now (plans .entry)) (now (ends .entry))
+        (runOf run) j) ⌝ }
 {
     let p = pick(t, plans, ends, run, j);
     let a = p.answer;
@@ -172,7 +181,8 @@ fn possible(t: &[u64], plans: &[u16], ends: &[u64], run: Run, j: usize) -> bool
 // Some member can be picked.
 fn pickable(t: &[u64], plans: &[u16], ends: &[u64], run: Run) -> bool
     requires { ⌜ plansRefusal (now t) (now plans) (now ends) ≡ 0 ⌝ }
-    ensures { λ r. ⌜ r ≡ pickableIn (now (t .entry)) (now (plans .entry)) (now (ends .entry)) (runOf run) ⌝ }
+    ensures { λ r. ⌜ r
+        ≡ pickableIn (now (t .entry)) (now (plans .entry)) (now (ends .entry)) (runOf run) ⌝ }
 {
     let n = task::members(t);
     let mut j = 0;
@@ -188,7 +198,8 @@ fn pickable(t: &[u64], plans: &[u16], ends: &[u64], run: Run) -> bool
 // Some member has steps left.
 fn steps_left(t: &[u64], plans: &[u16], ends: &[u64], run: Run) -> bool
     requires { ⌜ plansRefusal (now t) (now plans) (now ends) ≡ 0 ⌝ }
-    ensures { λ r. ⌜ r ≡ stepsLeftIn (now (t .entry)) (now (plans .entry)) (now (ends .entry)) (runOf run) ⌝ }
+    ensures { λ r. ⌜ r
+        ≡ stepsLeftIn (now (t .entry)) (now (plans .entry)) (now (ends .entry)) (runOf run) ⌝ }
 {
     let n = task::members(t);
     let mut j = 0;
@@ -204,7 +215,9 @@ fn steps_left(t: &[u64], plans: &[u16], ends: &[u64], run: Run) -> bool
 // The lowest member whose goal is not within the shared copy, or success.
 fn missed(t: &[u64], g: Shared) -> Outcome
     requires { ⌜ check (now t) ≡ 0 ⌝ }
-    ensures { λ r. ⌜ outcomeOf r ≡ missedIn (system (now (t .entry))) (sharedNumber g) (upTo (members (now (t .entry)))) ⌝ }
+    ensures { λ r. ⌜ outcomeOf r
+        ≡ missedIn (system (now (t .entry))) (sharedNumber g)
+        (upTo (members (now (t .entry)))) ⌝ }
 {
     let s = g.0;
     let n = task::members(t);
@@ -221,7 +234,8 @@ fn missed(t: &[u64], g: Shared) -> Outcome
 // What the run has come to.
 pub fn outcome_of(t: &[u64], plans: &[u16], ends: &[u64], run: Run) -> Outcome
     requires { ⌜ plansRefusal (now t) (now plans) (now ends) ≡ 0 ⌝ }
-    ensures { λ r. ⌜ outcomeOf r ≡ outcomeIn (now (t .entry)) (now (plans .entry)) (now (ends .entry)) (runOf run) ⌝ }
+    ensures { λ r. ⌜ outcomeOf r
+        ≡ outcomeIn (now (t .entry)) (now (plans .entry)) (now (ends .entry)) (runOf run) ⌝ }
 {
     let c = run.closed;
     if let Closed::By(f) = c {
@@ -262,10 +276,13 @@ fn count(done: usize, r: Reply) -> usize
     }
 }
 
-// The picks from the start, each meeting the run as the last one left it; the first bad pick is refused.
+// The picks from the start, each meeting the run as the last one left it; the first bad pick is
+// refused.
 pub fn replay_all(t: &[u64], plans: &[u16], ends: &[u64], picks: &[u8]) -> Replayed
     requires { ⌜ plansRefusal (now t) (now plans) (now ends) ≡ 0 ⌝ }
-    ensures { λ r. ⌜ replayedOf r ≡ replayIn (now (t .entry)) (now (plans .entry)) (now (ends .entry)) (now (picks .entry)) ⌝ }
+    ensures { λ r. ⌜ replayedOf r
+        ≡ replayIn (now (t .entry)) (now (plans .entry)) (now (ends .entry))
+        (now (picks .entry)) ⌝ }
 {
     let mut run = start(t);
     let mut done: usize = 0;
@@ -299,7 +316,8 @@ pub fn replay_all(t: &[u64], plans: &[u16], ends: &[u64], picks: &[u8]) -> Repla
 // A member's place is past its plan's end.
 pub fn past_end(t: &[u64], plans: &[u16], ends: &[u64], run: Run) -> bool
     requires { ⌜ plansRefusal (now t) (now plans) (now ends) ≡ 0 ⌝ }
-    ensures { λ r. ⌜ r ≡ pastEnd (now (t .entry)) (now (plans .entry)) (now (ends .entry)) (runOf run) ⌝ }
+    ensures { λ r. ⌜ r
+        ≡ pastEnd (now (t .entry)) (now (plans .entry)) (now (ends .entry)) (runOf run) ⌝ }
 {
     let n = task::members(t);
     let mut j = 0;

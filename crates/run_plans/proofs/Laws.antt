@@ -42,9 +42,14 @@ module _ (n : ℕ) (ends : List ℕ) where
   pub rising : length ends ≡ n → Rising n ends 0
   rising h = record { many = h; rest = begin (allOf (rises ends)) n }
 
-  pub rises-there : (j : ℕ) → Rising n ends j → j < n → (b : ℕ) → b ≡ beginning ends j → b ≤ getD ends j 0 → Rising n ends (j + 1)
+  pub rises-there : (j : ℕ) → Rising n ends j → j < n → (b : ℕ) → b ≡ beginning ends j → b ≤ getD ends j 0
+      → Rising n ends (j + 1)
   rises-there j r h b e l =
-      record { many = r .many; rest = all-onward (rises ends) n j (r .rest) h (le-leb (beginning ends j) (getD ends j 0) (omega arith)) }
+      record {
+        many = r .many;
+        rest =
+            all-onward (rises ends) n j (r .rest) h (le-leb (beginning ends j) (getD ends j 0) (omega arith));
+      }
 
 module _ (n : ℕ) (plans ends : List ℕ) where
   pub wrong-number : (length ends ≡ n → ⊥) → false ≡ endsFit n plans ends
@@ -55,7 +60,8 @@ module _ (n : ℕ) (plans ends : List ℕ) where
     pub falls-there : j < n → (b : ℕ) → b ≡ beginning ends j → getD ends j 0 < b → false ≡ endsFit n plans ends
     unfolding endsFit
     falls-there h b e l =
-        let f : allOf (rises ends) (upTo n) ≡ false = all-fails (rises ends) n j (r .rest) h (lt-leb (beginning ends j) (getD ends j 0) (omega arith)) in
+        let f : allOf (rises ends) (upTo n) ≡ false =
+        all-fails (rises ends) n j (r .rest) h (lt-leb (beginning ends j) (getD ends j 0) (omega arith)) in
         rw (eq-eqb (length ends) n (r .many), f)
 
     pub last-end : n ≤ j → (b : ℕ) → b ≡ beginning ends n → eqb b (length plans) ≡ endsFit n plans ends
@@ -70,7 +76,8 @@ pub record Part (n : ℕ) (plans ends : List ℕ) (j : ℕ) : Type 0 where
   pub within : getD ends j 0 ≤ length plans
 
 module _ (n : ℕ) (plans ends : List ℕ) (fit : endsFit n plans ends ≡ true) where
-  counted : (length ends ≡ n) × (((j : ℕ) → j < n → beginning ends j ≤ getD ends j 0) × (beginning ends n ≡ length plans))
+  counted : (length ends ≡ n)
+      × (((j : ℕ) → j < n → beginning ends j ≤ getD ends j 0) × (beginning ends n ≡ length plans))
   unfolding endsFit
   counted =
       let (h, last) = and-elim (eqb (length ends) n && allOf (rises ends) (upTo n)) _ fit in
@@ -91,7 +98,8 @@ module _ (plans ends : List ℕ) (j : ℕ) {n : ℕ} (p : Part n plans ends j) w
   pub plan-length : length (planOf plans ends j) ≡ getD ends j 0 - beginning ends j
   plan-length = length-slice (beginning ends j) (getD ends j 0) plans (p .within)
 
-  pub plan-at : (k : ℕ) → k < length (planOf plans ends j) → getD (planOf plans ends j) k 0 ≡ getD plans (beginning ends j + k) 0
+  pub plan-at : (k : ℕ) → k < length (planOf plans ends j)
+      → getD (planOf plans ends j) k 0 ≡ getD plans (beginning ends j + k) 0
   plan-at k h =
       getD-drop (beginning ends j) (take (getD ends j 0) plans) k 0
       ∙ getD-take (getD ends j 0) plans (beginning ends j + k) 0 (omega (arith, plan-length))
@@ -101,7 +109,8 @@ pub part-slice : (a e : ℕ) (xs : List ℕ) → a ≤ e → take (e - a) (drop 
 part-slice zero e xs h = let q : e - 0 ≡ e = omega arith in rw q
 part-slice (suc a) zero xs h = absurd (omega arith)
 part-slice (suc a) (suc e) [] h = take-nil (suc e - suc a)
-part-slice (suc a) (suc e) (x ∷ xs) h = let q : suc e - suc a ≡ e - a = omega arith in rw q (part-slice a e xs (omega arith))
+part-slice (suc a) (suc e) (x ∷ xs) h = let q : suc e - suc a ≡ e - a =
+    omega arith in rw q (part-slice a e xs (omega arith))
 
 pub part-refusal : (t plans ends : List ℕ) (j r b : ℕ) → b ≡ beginning ends j → b ≤ getD ends j 0
     → r ≡ planRefusal t j (take (getD ends j 0 - b) (drop b plans)) → r ≡ memberRefusal t plans ends j
@@ -139,7 +148,8 @@ module _ (t plans ends : List ℕ) (e : ℕ) (k : e ≡ check t) where
     unfolding plansRefusal
     refuses-ends h₁ = rw (← k, h, ← k₁, ← k₂, h₁)
 
-    pub refuses-plans : not b ≡ false → (r : ℕ) → r ≡ firstRefusal (memberRefusal t plans ends) (upTo (members t)) → r ≡ plansRefusal t plans ends
+    pub refuses-plans : not b ≡ false → (r : ℕ) → r ≡ firstRefusal (memberRefusal t plans ends) (upTo (members t))
+        → r ≡ plansRefusal t plans ends
     unfolding plansRefusal
     refuses-plans h₁ r q = rw (← k, h, ← k₁, ← k₂, h₁) (rw k₁ q)
 
@@ -160,7 +170,9 @@ checked t plans ends h =
     let (f, h₂) = else-both _ _ (else-both (check t) _ h .1) in
     record {
       fit = if-not-true 10 _ f;
-      entries = λ j l. else-both (firstRefusal (entry t j) (planOf plans ends j)) _ (upTo-refusal (memberRefusal t plans ends) (members t) h₂ j l) .0;
+      entries =
+          λ j l. else-both (firstRefusal (entry t j) (planOf plans ends j)) _
+          (upTo-refusal (memberRefusal t plans ends) (members t) h₂ j l) .0;
     }
 
 module _ (t plans ends : List ℕ) (j : ℕ) (h : plansRefusal t plans ends ≡ 0) (l : j < members t) where
@@ -169,4 +181,6 @@ module _ (t plans ends : List ℕ) (j : ℕ) (h : plansRefusal t plans ends ≡ 
 
   -- each step is an action
   pub checked-step : (k : ℕ) → k < length (planOf plans ends j) → getD (planOf plans ends j) k 0 < actions t
-  checked-step k m = entries-own t j (planOf plans ends j) (checked t plans ends h .entries j l) _ (mem-getD (planOf plans ends j) k 0 m) .0
+  checked-step k m =
+      entries-own t j (planOf plans ends j) (checked t plans ends h .entries j l) _
+      (mem-getD (planOf plans ends j) k 0 m) .0

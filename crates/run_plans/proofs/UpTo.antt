@@ -1,4 +1,5 @@
--- Recursions over the numbers below n, number by number: a loop's invariant, and what it gives at each turn and at each way out.
+-- Recursions over the numbers below n, number by number: a loop's invariant, and what it gives at each turn and at each
+-- way out.
 use mathlib.Core.Path.{_≡_, refl, sym, ap, _∙_}
 use mathlib.Core.Bool.{Bool, true, false}
 use mathlib.Core.List.{List, [], _∷_, map-id}

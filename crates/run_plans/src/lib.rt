@@ -1,4 +1,5 @@
-// The plans' check: one solving plan for each member in one slice, with the ends of the plans in it; and readers of checked plans.
+// The plans' check: one solving plan for each member in one slice, with the ends of the plans in
+// it; and readers of checked plans.
 ghost use mathlib.Core.Path.{_≡_};
 ghost use mathlib.Core.Bool.{true};
 ghost use Prim.Native.Nat.{_≤_, _<_};
@@ -59,7 +60,8 @@ fn member_refusal(t: &[u64], plans: &[u16], ends: &[u64], j: usize) -> u64
     requires { ⌜ check (now t) ≡ 0 ⌝ }
     requires { ⌜ endsFit (members (now t)) (now plans) (now ends) ≡ true ⌝ }
     requires { ⌜ j < members (now t) ⌝ }
-    ensures { λ r. ⌜ r ≡ memberRefusal (now (t .entry)) (now (plans .entry)) (now (ends .entry)) j ⌝ }
+    ensures { λ r. ⌜ r
+        ≡ memberRefusal (now (t .entry)) (now (plans .entry)) (now (ends .entry)) j ⌝ }
 {
     let from = beginning(ends, j) as usize;
     let to = ends[j] as usize;
@@ -70,7 +72,9 @@ fn member_refusal(t: &[u64], plans: &[u16], ends: &[u64], j: usize) -> u64
 fn members_refusal(t: &[u64], plans: &[u16], ends: &[u64]) -> u64
     requires { ⌜ check (now t) ≡ 0 ⌝ }
     requires { ⌜ endsFit (members (now t)) (now plans) (now ends) ≡ true ⌝ }
-    ensures { λ r. ⌜ r ≡ firstRefusal (memberRefusal (now (t .entry)) (now (plans .entry)) (now (ends .entry))) (upTo (members (now (t .entry)))) ⌝ }
+    ensures { λ r. ⌜ r
+        ≡ firstRefusal (memberRefusal (now (t .entry)) (now (plans .entry)) (now (ends .entry)))
+        (upTo (members (now (t .entry)))) ⌝ }
 {
     let n = task::members(t);
     let mut j = 0;

@@ -44,7 +44,8 @@ pub record Playing (t plans ends picks before : List ℕ) (first run : Run) (ans
 module _ (t plans ends picks before : List ℕ) (first : Run) where
   pub playing-starts : Playing t plans ends picks before first first before 0
   unfolding over
-  playing-starts = record { most = omega arith; rest = refl; done = []; many = refl; tells = refl; holds = refl; same = refl }
+  playing-starts =
+      record { most = omega arith; rest = refl; done = []; many = refl; tells = refl; holds = refl; same = refl }
 
   module _ (run : Run) (answers : List ℕ) (k : ℕ) (r : Playing t plans ends picks before first run answers k) where
     pub playing-picks : k < length picks → (p : Picked)
@@ -111,7 +112,8 @@ module _ (t plans ends picks before : List ℕ) (run : Run) where
       }
 
   module _ (e : ℕ) (is : e ≡ runRefusal t plans ends (runOf run)) where
-    pub into-refused : (e ≡ 0 → ⊥) → Means (runRefusal t plans ends (runOf run)) (record { refusal = e; run = run }) before
+    pub into-refused : (e ≡ 0 → ⊥)
+        → Means (runRefusal t plans ends (runOf run)) (record { refusal = e; run = run }) before
     into-refused h = as-it-was (runRefusal t plans ends (runOf run)) e is h
 
     pub into-given : e ≡ 0 → (last : Run) (after : List ℕ) → AllMean t plans ends (runOf run) picks before last after
@@ -132,5 +134,6 @@ module _ (t plans ends picks before : List ℕ) (run : Run) where
       (rw (lt-ltb (length before) (length picks) h)) (λ z. omega arith)
 
   pub play-fits : length picks ≤ length before → (p : Played) (after : List ℕ)
-      → Means (runRefusal t plans ends (runOf run)) p after → Means (playRefusal t plans ends (runOf run) picks before) p after
+      → Means (runRefusal t plans ends (runOf run)) p after
+      → Means (playRefusal t plans ends (runOf run) picks before) p after
   play-fits h p after m = rw (le-ltb (length before) (length picks) h) m

@@ -47,7 +47,8 @@ module _ (t plans ends : List ℕ) where
   answered r picks before = over (told r picks) before
 
   -- refused with this number, where there is one: the run and the slice are then as they were
-  pub record PlayMeans (refuses : ℕ) (r : Paper.Run ℕ) (picks before : List ℕ) (p : Played) (after : List ℕ) : Type 0 where
+  pub record PlayMeans (refuses : ℕ) (r : Paper.Run ℕ) (picks before : List ℕ) (p : Played)
+      (after : List ℕ) : Type 0 where
     pub refusal : p .refusal ≡ refuses
     pub run : runOf (p .run) ≡ (refuses leaves (λ k. r) otherwise playFrom r picks)
     pub answers : after ≡ (refuses leaves (λ k. before) otherwise answered r picks before)

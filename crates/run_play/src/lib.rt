@@ -1,5 +1,5 @@
-// A list of picks on a run; the task, plans and run are looked at once. The answer of each pick goes
-// into a lent slice.
+// A list of picks on a run; the task, plans and run are looked at once. The answer of each pick
+// goes into a lent slice.
 ghost use mathlib.Core.Path.{_≡_};
 ghost use lib.ListN.{set};
 ghost use Rattle.semantics.specs.Run.{plansRefusal, runRefusal};
@@ -49,7 +49,8 @@ fn play_all(
     answers: &mut [u64],
 ) -> Run
     requires { ⌜ plansRefusal (now t) (now plans) (now ends) ≡ 0 ⌝ }
-    ensures { λ r. ⌜ AllMean (now (t .entry)) (now (plans .entry)) (now (ends .entry)) (runOf run) (now (picks .entry))
+    ensures { λ r. ⌜ AllMean (now (t .entry)) (now (plans .entry)) (now (ends .entry)) (runOf run)
+        (now (picks .entry))
         (now (answers .entry)) r (now (answers .exit)) ⌝ }
 {
     let mut current = run;
@@ -103,7 +104,8 @@ pub fn play(
     answers: &mut [u64],
 ) -> Played
     ensures { λ r. ⌜ PlayMeans (now (t .entry)) (now (plans .entry)) (now (ends .entry))
-        (playRefusal (now (t .entry)) (now (plans .entry)) (now (ends .entry)) (runOf run) (now (picks .entry)) (now (answers .entry)))
+        (playRefusal (now (t .entry)) (now (plans .entry)) (now (ends .entry)) (runOf run)
+        (now (picks .entry)) (now (answers .entry)))
         (runOf run) (now (picks .entry)) (now (answers .entry)) r (now (answers .exit)) ⌝ }
 {
     if answers.len() < picks.len() {

@@ -29,7 +29,8 @@ module _ (t plans ends : List ℕ) (e : ℕ) (k : e ≡ plansRefusal t plans end
       at zero k h = absurd (h refl)
       at (suc e) k h = rw (← k)
 
-  pub replay-gives : (picks : List ℕ) → e ≡ 0 → (a : Base.Answer (Paper.Replay ℕ)) → a ≡ replayIn t plans ends picks → a ≡ jointReplay t plans ends picks
+  pub replay-gives : (picks : List ℕ) → e ≡ 0 → (a : Base.Answer (Paper.Replay ℕ)) → a ≡ replayIn t plans ends picks
+      → a ≡ jointReplay t plans ends picks
   unfolding jointReplay
   replay-gives picks h a q = rw (← k, h) q
 

@@ -8,7 +8,9 @@ use run_pick::Run;
 
 // Joint replay, for every input.
 pub fn joint_replay(t: &[u64], plans: &[u16], ends: &[u64], picks: &[u8]) -> Replayed
-    ensures { λ r. ⌜ replayedOf r ≡ jointReplay (now (t .entry)) (now (plans .entry)) (now (ends .entry)) (now (picks .entry)) ⌝ }
+    ensures { λ r. ⌜ replayedOf r
+        ≡ jointReplay (now (t .entry)) (now (plans .entry)) (now (ends .entry))
+        (now (picks .entry)) ⌝ }
 {
     let e = run_plans::refusal(t, plans, ends);
     if e != 0 {
@@ -19,7 +21,8 @@ pub fn joint_replay(t: &[u64], plans: &[u16], ends: &[u64], picks: &[u8]) -> Rep
 
 // The check of a run that is handed in, for every input; it starts with the plans' check.
 pub fn refusal(t: &[u64], plans: &[u16], ends: &[u64], run: Run) -> u64
-    ensures { λ r. ⌜ r ≡ runRefusal (now (t .entry)) (now (plans .entry)) (now (ends .entry)) (runOf run) ⌝ }
+    ensures { λ r. ⌜ r
+        ≡ runRefusal (now (t .entry)) (now (plans .entry)) (now (ends .entry)) (runOf run) ⌝ }
 {
     let p = run_plans::refusal(t, plans, ends);
     if p != 0 {
@@ -38,7 +41,8 @@ pub fn refusal(t: &[u64], plans: &[u16], ends: &[u64], run: Run) -> u64
 // A pick on a run, for every input; any run may be handed in.
 pub fn pick(t: &[u64], plans: &[u16], ends: &[u64], run: Run, member: u8) -> Picked
     ensures { λ r. ⌜ PickMeans
-        (pickOn (now (t .entry)) (now (plans .entry)) (now (ends .entry)) (runOf run) member) run r ⌝ }
+        (pickOn (now (t .entry)) (now (plans .entry)) (now (ends .entry))
+        (runOf run) member) run r ⌝ }
 {
     let r = refusal(t, plans, ends, run);
     if r != 0 {

@@ -9,16 +9,24 @@ use Rattle.semantics.specs.Task.{headFits, goalRow, actionRow, check}
 use Rattle.semantics.specs.Step.{routine, step}
 use Rattle.semantics.specs.Listing.{addNew, addAll, grow}
 use Rattle.semantics.specs.Solo.{soloFrom, soloNext, copies, leadingTo, liveOf}
-use Rattle.semantics.specs.Run.{start, rest, missedIn, pickStep, pick, pickable, stepsLeft, outcome, replayOn, replay, endsFit, plansRefusal, jointReplay}
-use Rattle.semantics.specs.Verdict.{sameRow, moved, ready, moves, configurations, collides, stuck, blocked, deadlocked, faults, solvableElse, verdictIn, verdict}
+use Rattle.semantics.specs.Run.{start, rest, missedIn, pickStep, pick, pickable, stepsLeft, outcome, replayOn}
+use Rattle.semantics.specs.Run.{replay, endsFit, plansRefusal, jointReplay}
+use Rattle.semantics.specs.Verdict.{sameRow, moved, ready, moves, configurations, collides, stuck, blocked}
+use Rattle.semantics.specs.Verdict.{deadlocked, faults, solvableElse, verdictIn, verdict}
 use Rattle.semantics.proofs.Table.{Claim, checkOf, Holds, table, further, AllHold}
 
 pub laws-hold : AllHold table
-unfolding anyOf allOf collect flatten keep numbersFrom firstRefusal within after below headFits goalRow actionRow check routine step addNew addAll grow soloFrom soloNext copies leadingTo liveOf start rest missedIn pickStep pick pickable stepsLeft outcome replayOn replay endsFit plansRefusal jointReplay sameRow moved ready moves configurations collides stuck blocked deadlocked faults solvableElse verdictIn verdict
+unfolding anyOf allOf collect flatten keep numbersFrom firstRefusal within after below headFits goalRow actionRow check
+    routine step addNew addAll grow soloFrom soloNext copies leadingTo liveOf start rest missedIn pickStep pick pickable
+    stepsLeft outcome replayOn replay endsFit plansRefusal jointReplay sameRow moved ready moves configurations collides
+    stuck blocked deadlocked faults solvableElse verdictIn verdict
 laws-hold = (refl, (refl, (refl, (refl, (refl, (refl, (refl, (refl, (refl, (refl, (refl, (refl, (refl, (refl, (refl, (refl, (refl, (refl, (refl, (refl, (refl, (refl, (refl, tt)))))))))))))))))))))))
 
 pub further-hold : AllHold further
-unfolding anyOf allOf collect keep numbersFrom firstRefusal within after below headFits goalRow actionRow check routine step addNew addAll grow soloFrom soloNext copies leadingTo liveOf start rest missedIn pickStep pick pickable stepsLeft outcome replayOn replay endsFit plansRefusal jointReplay sameRow moved ready moves configurations collides stuck blocked deadlocked faults solvableElse verdictIn verdict
+unfolding anyOf allOf collect keep numbersFrom firstRefusal within after below headFits goalRow actionRow check routine
+    step addNew addAll grow soloFrom soloNext copies leadingTo liveOf start rest missedIn pickStep pick pickable
+    stepsLeft outcome replayOn replay endsFit plansRefusal jointReplay sameRow moved ready moves configurations collides
+    stuck blocked deadlocked faults solvableElse verdictIn verdict
 further-hold =
     (refl, (refl, (refl, (refl, (refl, (refl, (refl, (refl, (refl, (refl, (refl, (refl, (refl, (refl, (refl, (refl, (refl, (refl, (refl, (refl, (refl, (refl, (refl, tt)))))))))))))))))))))))
 

@@ -10,8 +10,10 @@ use Rattle.semantics.specs.Task.{rowWidth, members, check}
 use Rattle.semantics.specs.System.{system, waits}
 use Rattle.semantics.specs.Listing.{addAll}
 use Rattle.semantics.specs.Step.{Decision, go, wait, step}
-use Rattle.semantics.specs.Run.{Fault, collision, deadlock, missed, Outcome, success, failure, still-open, Replay, jointReplay}
-use Rattle.semantics.specs.Verdict.{Finding, unsolvable, notRobust, robust, Room, lentOf, localRows, configurationRows, verdict, faults, liveFor, listedIn}
+use Rattle.semantics.specs.Run.{Fault, collision, deadlock, missed, Outcome, success, failure, still-open, Replay}
+use Rattle.semantics.specs.Run.{jointReplay}
+use Rattle.semantics.specs.Verdict.{Finding, unsolvable, notRobust, robust, Room, lentOf, localRows}
+use Rattle.semantics.specs.Verdict.{configurationRows, verdict, faults, liveFor, listedIn}
 
 -- a law with word k of row r changed
 abbrev pub with : ℕ → ℕ → ℕ → List ℕ → List ℕ
@@ -72,8 +74,9 @@ l12 = with 6 0 0 (with 6 1 1 (with 6 2 2 (with 6 3 0 (with 6 4 0 l1))))
 
 -- ---- what the paper says of them
 
--- a row of the table: a law's verdict with so many local and configuration words, the other slices as long as asked; a replay's
--- answer; the configurations that are listed; the faults that they show; the task check's refusal; a step's answer
+-- a row of the table: a law's verdict with so many local and configuration words, the other slices as long as asked; a
+-- replay's answer; the configurations that are listed; the faults that they show; the task check's refusal; a step's
+-- answer
 pub data Claim : Type 0 where
   verdictOf : List ℕ → ℕ → ℕ → Answer Finding → Claim
   replayOf : List ℕ → List ℕ → List ℕ → List ℕ → Answer (Replay ℕ) → Claim

@@ -1,8 +1,10 @@
--- The three demands of the settlement runner's owner. Each is proved: 1 as the contracts of the public functions, 2 and 3 in `theory`.
+-- The three demands of the settlement runner's owner. Each is proved: 1 as the contracts of the public functions, 2 and
+-- 3 in `theory`.
 --
--- Demand 1, total. Every input within the written limits gets its defined answer, and the work ends; every other input gets the refusal
--- that stands first in the written order; afterwards every lent slice holds what is written. A public function has no `requires`, and its
--- contract equates its answer and its lent slices at exit, for all inputs, with a meaning:
+-- Demand 1, total. Every input within the written limits gets its defined answer, and the work ends; every other input
+-- gets the refusal that stands first in the written order; afterwards every lent slice holds what is written. A public
+-- function has no `requires`, and its contract equates its answer and its lent slices at exit, for all inputs, with a
+-- meaning:
 --
 --   task check              `check`              task::check
 --   step                    `step`               step::step
@@ -18,14 +20,14 @@
 --
 -- The C interface (capi) gives these meanings as numbers.
 --
--- Demand 2, the model. Step, solo replay, joint replay, solo search and a pick on a run agree with the execution model of social laws in
--- MA-STRIPS (Model), yes where it says yes and no where it says no: `Demand2`.
+-- Demand 2, the model. Step, solo replay, joint replay, solo search and a pick on a run agree with the execution model
+-- of social laws in MA-STRIPS (Model), yes where it says yes and no where it says no: `Demand2`.
 --
--- Demand 3, robustness. For an accepted task that fits the slices and in which each member has a solving plan: over all choices of solving
--- plans and all lists of picks, the finished runs are just the successes exactly when the verdict is robust; and the verdict is robust
--- exactly when the task's setting is robust in the model. A verdict of not robust carries plans and picks whose joint replay ends as the
--- verdict says: `Demand3`, and of the verdict's own answer `Demand3Answer`. What the verdict's search lists, and when it refuses:
--- `VerdictSearch`.
+-- Demand 3, robustness. For an accepted task that fits the slices and in which each member has a solving plan: over all
+-- choices of solving plans and all lists of picks, the finished runs are just the successes exactly when the verdict is
+-- robust; and the verdict is robust exactly when the task's setting is robust in the model. A verdict of not robust
+-- carries plans and picks whose joint replay ends as the verdict says: `Demand3`, and of the verdict's own answer
+-- `Demand3Answer`. What the verdict's search lists, and when it refuses: `VerdictSearch`.
 use mathlib.Core.Path.{_≡_}
 use mathlib.Core.Bool.{Bool, true, false, not}
 use mathlib.Core.Logic.{_↔_, _⊎_}
@@ -41,9 +43,15 @@ use Rattle.semantics.specs.System.{System, Waits, result, system, waits,
 use Rattle.semantics.specs.Listing.{addAll}
 use Rattle.semantics.specs.Step.{Decision, stepRefusal, step}
 use Rattle.semantics.specs.Solo.{Solo, soloRefusal, soloReplay, soloNext, searchRefusal, soloSearch}
-use Rattle.semantics.specs.Run.{Run, Fault, not-yet, isClosed, Reply, Replied, Outcome, success, failure, still-open, isSuccess, isOpen, Replay, rest, stepped, closedBy, passOver, start, outcome, play, beginning, planOf, plansOf, plansRefusal, jointReplay, startOf, pickOn, playOn}
-use Rattle.semantics.specs.Verdict.{Room, localRows, configurationRows, tooShort, Verdict, unsolvable, notRobust, robust, Finding, Failing, sameRow, localCopy, sharedCopy, startRow, moved, moves, faults, verdict, Slices, room, Conflict, liveFor, listedIn, listedFor}
-use Rattle.semantics.specs.Model.{FactSet, _⊆_, Setting, apply, Executes, Solution, World, Acts, Collides, Waiting, Execution, Deadlock, Success, Missed, GoesOn, begin, Robust}
+use Rattle.semantics.specs.Run.{Run, Fault, not-yet, isClosed, Reply, Replied, Outcome, success, failure}
+use Rattle.semantics.specs.Run.{still-open, isSuccess, isOpen, Replay, rest, stepped, closedBy, passOver, start}
+use Rattle.semantics.specs.Run.{outcome, play, beginning, planOf, plansOf, plansRefusal, jointReplay, startOf}
+use Rattle.semantics.specs.Run.{pickOn, playOn}
+use Rattle.semantics.specs.Verdict.{Room, localRows, configurationRows, tooShort, Verdict, unsolvable, notRobust}
+use Rattle.semantics.specs.Verdict.{robust, Finding, Failing, sameRow, localCopy, sharedCopy, startRow, moved}
+use Rattle.semantics.specs.Verdict.{moves, faults, verdict, Slices, room, Conflict, liveFor, listedIn, listedFor}
+use Rattle.semantics.specs.Model.{FactSet, _⊆_, Setting, apply, Executes, Solution, World, Acts, Collides}
+use Rattle.semantics.specs.Model.{Waiting, Execution, Deadlock, Success, Missed, GoesOn, begin, Robust}
 
 -- ---- demand 2: the operations agree with the execution model of social laws in MA-STRIPS
 
@@ -68,9 +76,11 @@ setting t =
 pub record StepAgrees (t : List ℕ) (a g : ℕ) : Type 0 where
   pub goes : (s : ℕ)
       → (step t a g ≡ gives (Decision.go s))
-      ↔ ((setting t .waitfor a ⊆ factsOf g) × (setting t .pre a ⊆ factsOf g) × (factsOf s ≡ apply (setting t) a (factsOf g)))
+      ↔ ((setting t .waitfor a ⊆ factsOf g) × (setting t .pre a ⊆ factsOf g)
+      × (factsOf s ≡ apply (setting t) a (factsOf g)))
   pub waits : (step t a g ≡ gives Decision.wait) ↔ ¬ (setting t .waitfor a ⊆ factsOf g)
-  pub collides : (step t a g ≡ gives Decision.collision) ↔ ((setting t .waitfor a ⊆ factsOf g) × ¬ (setting t .pre a ⊆ factsOf g))
+  pub collides : (step t a g ≡ gives Decision.collision) ↔
+      ((setting t .waitfor a ⊆ factsOf g) × ¬ (setting t .pre a ⊆ factsOf g))
 
 pub record SoloReplayAgrees (t : List ℕ) (i : ℕ) (plan : List ℕ) : Type 0 where
   pub solves : (soloReplay t i plan ≡ gives Solo.solves) ↔ Solution (setting t) i plan
@@ -100,7 +110,8 @@ OutcomeOf t w (failure Fault.collision) = ⊥
 -- the picks, all executed, lead to a world with the facts of g and this outcome; or all but the last, which collides
 pub data Ends (t : List ℕ) (plans : List (List ℕ)) : List ℕ → Outcome → ℕ → ℕ → Type 0 where
   ends : {picks : List ℕ} {o : Outcome} {g : ℕ} {w : World (setting t)}
-      → Execution (setting t) (worldOf t plans) picks w → OutcomeOf t w o → w .state ≡ factsOf g → Ends t plans picks o g (length picks)
+      → Execution (setting t) (worldOf t plans) picks w → OutcomeOf t w o → w .state ≡ factsOf g
+      → Ends t plans picks o g (length picks)
   collided : {picks : List ℕ} {i g : ℕ} {w : World (setting t)}
       → Execution (setting t) (worldOf t plans) picks w → Collides (setting t) w i → w .state ≡ factsOf g
       → Ends t plans (picks ++ (i ∷ [])) (failure Fault.collision) g (length picks)
@@ -117,7 +128,8 @@ pub record JointReplayAgrees (t plans ends : List ℕ) : Type 0 where
   -- the plans are accepted exactly when they are solving plans; then some answer is given, and only then
   pub accepts : (plansRefusal t plans ends ≡ 0) ↔ SolvingPlans t plans ends
   pub begins : plansRefusal t plans ends ≡ 0 → (a : Replay ℕ) × (jointReplay t plans ends [] ≡ gives a)
-  pub answers : (picks : List ℕ) (a : Replay ℕ) → jointReplay t plans ends picks ≡ gives a → plansRefusal t plans ends ≡ 0
+  pub answers : (picks : List ℕ) (a : Replay ℕ) → jointReplay t plans ends picks ≡ gives a
+      → plansRefusal t plans ends ≡ 0
   pub replays : plansRefusal t plans ends ≡ 0 → (picks : List ℕ) (o : Outcome) (g k : ℕ)
       → (jointReplay t plans ends picks ≡ gives (record { outcome = o; shared = g; picked = k }))
       ↔ Ends t (plansOf (members t) plans ends) picks o g k
@@ -141,8 +153,9 @@ worldIn t plans bounds r = worldAt t (plansOf (members t) plans bounds) r
 abbrev pub Stays : (Π : Setting) → World Π → ℕ → Type 0
 Stays Π w i = Waiting Π w i ⊎ (w .left i ≡ [])
 
--- Each answer of a pick, both ways: the run moves by just the one step that the scheduler's choice executes; a collision closes it and
--- changes nothing else; 8 for no agent; 13 for an agent that waits or has ended, and for every agent of a run that is closed.
+-- Each answer of a pick, both ways: the run moves by just the one step that the scheduler's choice executes; a
+-- collision closes it and changes nothing else; 8 for no agent; 13 for an agent that waits or has ended, and for every
+-- agent of a run that is closed.
 pub record PickAgrees (t plans ends : List ℕ) (r : Run ℕ) (i : ℕ) : Type 0 where
   pub goes : (g : ℕ)
       → (pickOn t plans ends r i ≡ gives (record { reply = Reply.goes; run = stepped r i g }))
@@ -223,7 +236,8 @@ module _ (S : System) (waits : Waits S) where
   abbrev pub runOutcome : Choice S → List ℕ → Outcome
   runOutcome c picks = outcome S waits (c .plans) (play S waits (c .plans) (start S) picks)
 
-  -- the set of finished runs, and the set of those that are successes: a run stands in it with its plans and its list of picks
+  -- the set of finished runs, and the set of those that are successes: a run stands in it with its plans and its list
+  -- of picks
   abbrev pub finishedRuns : Choice S → List ℕ → Bool
   finishedRuns c picks = not (isOpen (runOutcome c picks))
 
@@ -236,10 +250,12 @@ pub record Replays (t : List ℕ) (told : Failing) : Type 0 where
   pub ends : List ℕ
   pub picks : List ℕ
   pub shared : ℕ
-  pub replays : jointReplay t plans ends picks ≡ gives (record { outcome = failure (told .fault); shared = shared; picked = told .picked })
+  pub replays : jointReplay t plans ends picks
+      ≡ gives (record { outcome = failure (told .fault); shared = shared; picked = told .picked })
 
--- For a task that is not refused, in which each member has a solving plan: the verdict is robust exactly when the finished runs are
--- just the successes, and exactly when the task's setting is robust. A verdict of not robust has a conflict that replays.
+-- For a task that is not refused, in which each member has a solving plan: the verdict is robust exactly when the
+-- finished runs are just the successes, and exactly when the task's setting is robust. A verdict of not robust has a
+-- conflict that replays.
 pub record Demand3 (t : List ℕ) (room : Room) : Type 0 where
   pub robust : Choice (system t) → (v : Finding) → verdict t room ≡ gives v
       → ((count : ℕ) × (v ≡ robust count)) ↔ (finishedRuns (system t) (waits t) ≡ successes (system t) (waits t))
@@ -249,13 +265,15 @@ pub record Demand3 (t : List ℕ) (room : Room) : Type 0 where
 
 -- the fault is one that a listed configuration shows
 abbrev pub ShownIn : List ℕ → Room → Fault → Type 0
-ShownIn t room f = (c : List ℕ) × List·Memᴰ c (listedIn t room) × List·Memᴰ f (faults (system t) (waits t) (liveFor t room) c)
+ShownIn t room f =
+    (c : List ℕ) × List·Memᴰ c (listedIn t room) × List·Memᴰ f (faults (system t) (waits t) (liveFor t room) c)
 
--- The same of a verdict's own answer; and what is told of a conflict is what joint replay of the conflict's slices answers, and a fault
--- that a listed configuration shows.
+-- The same of a verdict's own answer; and what is told of a conflict is what joint replay of the conflict's slices
+-- answers, and a fault that a listed configuration shows.
 pub record Demand3Answer (t : List ℕ) (before after : Slices) (answer : Answer (Verdict Failing)) : Type 0 where
   pub robust : Choice (system t) → (v : Verdict Failing) → answer ≡ gives v
-      → ((count : ℕ) × (v ≡ Verdict.robust count)) ↔ (finishedRuns (system t) (waits t) ≡ successes (system t) (waits t))
+      → ((count : ℕ) × (v ≡ Verdict.robust count)) ↔
+      (finishedRuns (system t) (waits t) ≡ successes (system t) (waits t))
   pub robustSetting : ((j : ℕ) → j < members t → Solvable t j) → (v : Verdict Failing) → answer ≡ gives v
       → ((count : ℕ) × (v ≡ Verdict.robust count)) ↔ Robust (setting t)
   pub notRobust : (told : Failing) → answer ≡ gives (notRobust told)
@@ -264,8 +282,8 @@ pub record Demand3Answer (t : List ℕ) (before after : Slices) (answer : Answer
 
 -- ---- what the verdict's search lists, and when it refuses
 
--- a configuration that can be reached: the start, or what a move makes of one. A move is an action whose preconditions hold in its agent's
--- local copy and in the shared copy, and after which the agent alone can go on to its goal.
+-- a configuration that can be reached: the start, or what a move makes of one. A move is an action whose preconditions
+-- hold in its agent's local copy and in the shared copy, and after which the agent alone can go on to its goal.
 pub data Configured (t : List ℕ) : List ℕ → Type 0 where
   at-start : Configured t (startRow (system t))
   by-move : {c : List ℕ} {i a : ℕ} → Configured t c → setting t .ActionOf i a
@@ -274,7 +292,8 @@ pub data Configured (t : List ℕ) : List ℕ → Type 0 where
       → Completable t i (result (system t) a (localCopy (system t) c i))
       → Configured t (moved (system t) c a)
 
--- the listed configurations are those that can be reached, each once, in breadth order, by moves with a right test of liveness
+-- the listed configurations are those that can be reached, each once, in breadth order, by moves with a right test of
+-- liveness
 pub record ListedRows (t : List ℕ) (live : ℕ → ℕ → Bool) (rows : List (List ℕ)) : Type 0 where
   pub listed : Lists [] (Configured t) rows
   pub breadth : Breadth (sameRow eqb) (moves (system t) live) (startRow (system t)) rows
@@ -286,10 +305,12 @@ CopiesExceed t K = (i : ℕ) × (i < members t) × Exceed 0 (Reachable t i) K
 
 -- of an accepted task with slices as long as asked
 pub record VerdictSearch (t : List ℕ) (room : Room) : Type 0 where
-  -- 9 exactly when an agent's copies exceed K or, each agent having a solution, the configurations exceed C; and no other refusal
+  -- 9 exactly when an agent's copies exceed K or, each agent having a solution, the configurations exceed C; and no
+  -- other refusal
   pub full : (verdict t room ≡ refused 9)
       ↔ (CopiesExceed t (localRows t (room .localTable))
-      ⊎ (((j : ℕ) → j < members t → Solvable t j) × Exceed [] (Configured t) (configurationRows t (room .configurationTable))))
+      ⊎ (((j : ℕ) → j < members t → Solvable t j)
+      × Exceed [] (Configured t) (configurationRows t (room .configurationTable))))
   pub noOther : (k : ℕ) → verdict t room ≡ refused k → k ≡ 9
   -- unsolvable with the lowest agent that has no individual solution
   pub unsolvable : (i : ℕ)

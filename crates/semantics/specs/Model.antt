@@ -1,6 +1,7 @@
--- Social laws in MA-STRIPS, by themselves: source document 000 for the setting, projections and individual solutions; 003 for the
--- scheduler, collision and deadlock; 001 for a goal missed at the end. Facts are numbers, states are sets of facts; nothing here
--- knows of masks. Where the planning compilation of 000 differs from this execution model, this decides.
+-- Social laws in MA-STRIPS, by themselves: source document 000 for the setting, projections and individual solutions;
+-- 003 for the scheduler, collision and deadlock; 001 for a goal missed at the end. Facts are numbers, states are sets
+-- of facts; nothing here knows of masks. Where the planning compilation of 000 differs from this execution model, this
+-- decides.
 use mathlib.Core.Path.{_≡_}
 use mathlib.Core.Bool.{Bool, true, cond, not, _&&_, _||_}
 use mathlib.Core.Logic.{_⊎_}
@@ -35,7 +36,8 @@ module _ (Π : Setting) where
   -- agent i alone executes the actions from the first state to the last: its projection
   pub data Executes (i : ℕ) : FactSet → List ℕ → FactSet → Type 0 where
     none : {s : FactSet} → Executes i s [] s
-    then : {s s′ : FactSet} {a : ℕ} {π : List ℕ} → Π .ActionOf i a → Π .pre a ⊆ s → Executes i (apply a s) π s′ → Executes i s (a ∷ π) s′
+    then : {s s′ : FactSet} {a : ℕ} {π : List ℕ} → Π .ActionOf i a → Π .pre a ⊆ s → Executes i (apply a s) π s′
+        → Executes i s (a ∷ π) s′
 
   -- an individual solution
   abbrev pub Solution : ℕ → List ℕ → Type 0
@@ -56,7 +58,8 @@ module _ (Π : Setting) where
 
   -- the scheduler chooses agent i, whose pending action does not wait, and a precondition does not hold
   pub data Collides (w : World) (i : ℕ) : Type 0 where
-    collides : {a : ℕ} {π : List ℕ} → i < Π .agents → w .left i ≡ a ∷ π → Π .waitfor a ⊆ w .state → ¬ (Π .pre a ⊆ w .state) → Collides w i
+    collides : {a : ℕ} {π : List ℕ} → i < Π .agents → w .left i ≡ a ∷ π → Π .waitfor a ⊆ w .state
+        → ¬ (Π .pre a ⊆ w .state) → Collides w i
 
   -- agent i's pending action waits for a precondition
   pub data Waiting (w : World) (i : ℕ) : Type 0 where
@@ -103,7 +106,8 @@ module _ (Π : Setting) where
     pub no-deadlock : ¬ Deadlock w
     pub no-miss : Ended w → (i : ℕ) → i < Π .agents → Π .goal i ⊆ w .state
 
-  -- rational robustness (000), a goal missed at the end being a fault too (001): whatever individual solutions the agents choose and
-  -- whatever the scheduler does, no world of the execution shows a fault
+  -- rational robustness (000), a goal missed at the end being a fault too (001): whatever individual solutions the
+  -- agents choose and whatever the scheduler does, no world of the execution shows a fault
   abbrev pub Robust : Type 0
-  Robust = (plans : List (List ℕ)) → Solutions plans → (is : List ℕ) (w : World) → Execution (begin plans) is w → Faultless w
+  Robust = (plans : List (List ℕ)) → Solutions plans → (is : List ℕ) (w : World) → Execution (begin plans) is w
+      → Faultless w

@@ -143,7 +143,8 @@ module _ (S : System) (waits : Waits S) (plans : List (List ℕ)) where
   unfoldable pub outcome : Run (S .State) → Outcome
   outcome r =
       closing (r .closed)
-      (cond (pickable r) still-open (cond (stepsLeft r) (failure deadlock) (missedIn S (r .shared) (upTo (S .members)))))
+      (cond (pickable r) still-open
+      (cond (stepsLeft r) (failure deadlock) (missedIn S (r .shared) (upTo (S .members)))))
 
   -- a list of picks, each meeting the run as the last one left it
   unfoldable pub play : Run (S .State) → List ℕ → Run (S .State)

@@ -1,5 +1,5 @@
--- A planning system: what solo plans, runs and configurations need to know of a task. Which preconditions are waited for
--- stands beside it, since solo plans and moves do not depend on it. A task of document 01 is one such system.
+-- A planning system: what solo plans, runs and configurations need to know of a task. Which preconditions are waited
+-- for stands beside it, since solo plans and moves do not depend on it. A task of document 01 is one such system.
 use mathlib.Core.Path.{_≡_}
 use mathlib.Core.Bool.{Bool, true, false, cond, not}
 use mathlib.Core.List.{List, [], _∷_}

@@ -76,8 +76,8 @@ pub record Reading : Type 0 where
 abbrev pub refusedWith : List ℕ → ℕ → Reading
 refusedWith words r = record { answer = refused r; words = words }
 
--- the reader of a text of at most n records of w fields: 14 writes nothing; 15 and the words' own refusal leave the word
--- slice all zeros
+-- the reader of a text of at most n records of w fields: 14 writes nothing; 15 and the words' own refusal leave the
+-- word slice all zeros
 unfoldable pub readRecords : ℕ → ℕ → (List ℕ → ℕ) → List ℕ → List ℕ → Reading
 readRecords w n refusal text words =
     (14 if ltb (length words) (w * n)) leaves refusedWith words otherwise

@@ -90,10 +90,12 @@ module _ (t : List ℕ) (i : ℕ) (plan : List ℕ) where
       replay-entry zero e₂ h₂ = absurd (h₂ refl)
       replay-entry (suc p) e₂ h₂ = let l : i < members t = omega arith in rw (← e, h, lt-ltb i (members t) l, ← e₂)
 
-      pub replay-gives : (p : ℕ) → p ≡ firstRefusal (entry t i) plan → p ≡ 0 → (s : Solo) → s ≡ soloFrom (system t) i 0 (initial t) plan
+      pub replay-gives : (p : ℕ) → p ≡ firstRefusal (entry t i) plan → p ≡ 0 → (s : Solo)
+          → s ≡ soloFrom (system t) i 0 (initial t) plan
           → gives s ≡ soloReplay t i plan
       unfolding soloReplay
-      replay-gives p e₂ h₂ s k = let l : i < members t = omega arith in rw (← e, h, lt-ltb i (members t) l, ← e₂, h₂, ← k)
+      replay-gives p e₂ h₂ s k = let l : i < members t =
+          omega arith in rw (← e, h, lt-ltb i (members t) l, ← e₂, h₂, ← k)
 
 -- ---- the goal
 

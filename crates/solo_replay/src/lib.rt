@@ -10,7 +10,8 @@ ghost use Rattle.solo_replay.specs.Value.{soloOf, replayedOf};
 use mask::Local;
 use step::LocalAttempt;
 
-// What a plan comes to: it solves; its step at an index lacks a precondition; or all steps are done and the goal is missing.
+// What a plan comes to: it solves; its step at an index lacks a precondition; or all steps are done
+// and the goal is missing.
 pub enum Solo {
     Solves,
     Breaks(usize),
@@ -78,7 +79,9 @@ pub fn replay(t: &[u64], i: usize, plan: &[u16]) -> Solo
     requires { ⌜ check (now t) ≡ 0 ⌝ }
     requires { ⌜ i < members (now t) ⌝ }
     requires { ⌜ firstRefusal (entry (now t) i) (now plan) ≡ 0 ⌝ }
-    ensures { λ r. ⌜ soloOf r ≡ soloFrom (system (now (t .entry))) i 0 (initial (now (t .entry))) (now (plan .entry)) ⌝ }
+    ensures { λ r. ⌜ soloOf r
+        ≡ soloFrom (system (now (t .entry))) i 0 (initial (now (t .entry)))
+        (now (plan .entry)) ⌝ }
 {
     let mut s = start(t);
     let mut k = 0;

@@ -83,8 +83,10 @@ module _ (t : List ℕ) (a g : ℕ) where
     module _ (h₁ : a < m) (F : ℕ) (e₂ : F ≡ facts t) (b : Bool) (k : b ≡ below F g) where
       pub step-shared : not b ≡ true → refused 4 ≡ step t a g
       unfolding step
-      step-shared h₂ = let l : a < actions t = omega arith in rw (← e, h, lt-ltb a (actions t) l, ← e₂, ← k, not-true b h₂)
+      step-shared h₂ = let l : a < actions t =
+          omega arith in rw (← e, h, lt-ltb a (actions t) l, ← e₂, ← k, not-true b h₂)
 
       pub step-decides : not b ≡ false → (d : Decision ℕ) → d ≡ routine (system t) (waits t) a g → gives d ≡ step t a g
       unfolding step
-      step-decides h₂ d k₁ = let l : a < actions t = omega arith in rw (← e, h, lt-ltb a (actions t) l, ← e₂, ← k, not-false b h₂, ← k₁)
+      step-decides h₂ d k₁ = let l : a < actions t =
+          omega arith in rw (← e, h, lt-ltb a (actions t) l, ← e₂, ← k, not-false b h₂, ← k₁)

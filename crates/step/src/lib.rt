@@ -93,7 +93,8 @@ pub fn local_result(t: &[u64], a: usize, s: Local) -> Local
 pub fn decide(t: &[u64], a: usize, g: Shared) -> Decision
     requires { ⌜ check (now t) ≡ 0 ⌝ }
     requires { ⌜ a < actions (now t) ⌝ }
-    ensures { λ r. ⌜ decisionOf r ≡ routine (system (now (t .entry))) (waits (now (t .entry))) a (sharedNumber g) ⌝ }
+    ensures { λ r. ⌜ decisionOf r
+        ≡ routine (system (now (t .entry))) (waits (now (t .entry))) a (sharedNumber g) ⌝ }
 {
     if waits(t, a, g.0) {
         return Decision::Wait;

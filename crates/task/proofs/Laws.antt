@@ -9,7 +9,8 @@ use lib.Dec.{eqb, leb}
 use borrow.Author.Tests.{lt-ltb, le-ltb, le-leb, lt-leb, eq-eqb, ne-eqb, leb-true, eqb-true, not-true, not-false}
 use Rattle.semantics.specs.Base.{_if_}
 use Rattle.semantics.specs.Mask.{within, below}
-use Rattle.semantics.specs.Task.{rowWidth, word, facts, members, actions, initial, goal, actionWord, owner, pre, wait, add, del, between, headFits, goalRow, actionRow, check}
+use Rattle.semantics.specs.Task.{rowWidth, word, facts, members, actions, initial, goal, actionWord, owner, pre, wait}
+use Rattle.semantics.specs.Task.{add, del, between, headFits, goalRow, actionRow, check}
 use Rattle.theory.proofs.Lists.{and-elim}
 use Rattle.task.specs.Inner.Shape.{Sized, masksBelow, rowsRefusal}
 
@@ -28,7 +29,8 @@ within-is x y m n b e e₁ k = rw (← e, ← e₁) k
 pub action-word-is : (t : List ℕ) (n a k w : ℕ) → n ≡ members t → w ≡ word t (1 + n + a) k → w ≡ actionWord t a k
 action-word-is t n a k w e h = rw (← e) h
 
-pub action-below-is : (t : List ℕ) (n a k : ℕ) (b : Bool) → n ≡ members t → b ≡ below (facts t) (word t (1 + n + a) k) → b ≡ below (facts t) (actionWord t a k)
+pub action-below-is : (t : List ℕ) (n a k : ℕ) (b : Bool) → n ≡ members t → b ≡ below (facts t) (word t (1 + n + a) k)
+    → b ≡ below (facts t) (actionWord t a k)
 action-below-is t n a k b e h = rw (← e) h
 
 -- ---- row 0
@@ -53,18 +55,28 @@ module _ (t : List ℕ) where
   unfolding headFits
   many-members h =
       let e : leb (members t) 8 ≡ false = lt-leb (members t) 8 h in
-      let e₁ = and-right (between 1 (facts t) 64) (leb 1 (members t) && leb (members t) 8) (and-right (leb 1 (members t)) (leb (members t) 8) e) in
+      let e₁ = and-right (between 1 (facts t) 64) (leb 1 (members t) && leb (members t) 8)
+      (and-right (leb 1 (members t)) (leb (members t) 8) e) in
       rw e₁
 
   pub many-actions : 256 < actions t → false ≡ headFits t
   unfolding headFits
   many-actions h =
-      let e = and-right (between 1 (facts t) 64 && between 1 (members t) 8) (leb (actions t) 256) (lt-leb (actions t) 256 h) in
+      let e = and-right (between 1 (facts t) 64 && between 1 (members t) 8) (leb (actions t) 256)
+      (lt-leb (actions t) 256 h) in
       rw e
 
-  pub head-last : 1 ≤ facts t → facts t ≤ 64 → 1 ≤ members t → members t ≤ 8 → actions t ≤ 256 → eqb (word t 0 4) 0 ≡ headFits t
+  pub head-last : 1 ≤ facts t → facts t ≤ 64 → 1 ≤ members t → members t ≤ 8 → actions t ≤ 256
+      → eqb (word t 0 4) 0 ≡ headFits t
   unfolding headFits
-  head-last a b c d e = simp (le-leb 1 (facts t) a, le-leb (facts t) 64 b, le-leb 1 (members t) c, le-leb (members t) 8 d, le-leb (actions t) 256 e)
+  head-last a b c d e =
+      simp (
+        le-leb 1 (facts t) a,
+        le-leb (facts t) 64 b,
+        le-leb 1 (members t) c,
+        le-leb (members t) 8 d,
+        le-leb (actions t) 256 e,
+      )
 
   pub head-bounds : headFits t ≡ true → (members t ≤ 8) × (actions t ≤ 256)
   unfolding headFits
@@ -111,7 +123,9 @@ module _ (t : List ℕ) (i : ℕ) where
     pub wrong-4 : w ≡ word t (1 + i) 4 → (w ≡ 0 → ⊥) → 3 ≡ goalRow t i
     unfolding shape
     wrong-4 e h =
-        misshapen (and-right (eqb (word t (1 + i) 0) i && eqb (word t (1 + i) 2) 0 && eqb (word t (1 + i) 3) 0) (eqb (word t (1 + i) 4) 0) (ne-eqb (word t (1 + i) 4) 0 (λ k. h (e ∙ k))))
+        misshapen
+        (and-right (eqb (word t (1 + i) 0) i && eqb (word t (1 + i) 2) 0 && eqb (word t (1 + i) 3) 0)
+        (eqb (word t (1 + i) 4) 0) (ne-eqb (word t (1 + i) 4) 0 (λ k. h (e ∙ k))))
 
   module _ (w₀ w₂ w₃ w₄ : ℕ)
       (e₀ : w₀ ≡ word t (1 + i) 0) (h₀ : (w₀ ≡ i))
@@ -121,7 +135,12 @@ module _ (t : List ℕ) (i : ℕ) where
     shaped : goalRow t i ≡ 4 if not (below (facts t) (goal t i))
     unfolding goalRow
     shaped =
-        simp (eq-eqb (word t (1 + i) 0) i (sym e₀ ∙ h₀), eq-eqb (word t (1 + i) 2) 0 (sym e₂ ∙ h₂), eq-eqb (word t (1 + i) 3) 0 (sym e₃ ∙ h₃), eq-eqb (word t (1 + i) 4) 0 (sym e₄ ∙ h₄))
+        simp (
+          eq-eqb (word t (1 + i) 0) i (sym e₀ ∙ h₀),
+          eq-eqb (word t (1 + i) 2) 0 (sym e₂ ∙ h₂),
+          eq-eqb (word t (1 + i) 3) 0 (sym e₃ ∙ h₃),
+          eq-eqb (word t (1 + i) 4) 0 (sym e₄ ∙ h₄),
+        )
 
     pub goal-above : not b ≡ true → 4 ≡ goalRow t i
     goal-above h = rw (shaped, ← e, h)
@@ -145,7 +164,8 @@ module _ (t : List ℕ) (a : ℕ) where
     pub add-above : b ≡ below (facts t) (add t a) → not b ≡ true → false ≡ masksBelow t a
     unfolding masksBelow
     add-above e h =
-        rw (and-right (below (facts t) (pre t a) && below (facts t) (wait t a)) (below (facts t) (add t a)) (sym e ∙ not-true b h))
+        rw (and-right (below (facts t) (pre t a) && below (facts t) (wait t a)) (below (facts t) (add t a))
+        (sym e ∙ not-true b h))
 
   module _ (p w d c : Bool) where
     pub masks-last : p ≡ below (facts t) (pre t a) → not p ≡ false → w ≡ below (facts t) (wait t a) → not w ≡ false
@@ -198,8 +218,10 @@ module _ (t : List ℕ) where
       module _ (k₁ : not s ≡ false) (b : Bool) (e₂ : b ≡ below (facts t) (initial t)) where
         pub check-initial : not b ≡ true → 4 ≡ check t
         unfolding check
-        check-initial k₂ = rw (le-ltb (length t) rowWidth h, ← e, not-false f k, ← e₁, not-false s k₁, ← e₂, not-true b k₂)
+        check-initial k₂ =
+            rw (le-ltb (length t) rowWidth h, ← e, not-false f k, ← e₁, not-false s k₁, ← e₂, not-true b k₂)
 
         pub check-rows : not b ≡ false → (r : ℕ) → r ≡ rowsRefusal t → r ≡ check t
         unfolding check
-        check-rows k₂ r e₃ = rw (le-ltb (length t) rowWidth h, ← e, not-false f k, ← e₁, not-false s k₁, ← e₂, not-false b k₂) e₃
+        check-rows k₂ r e₃ =
+            rw (le-ltb (length t) rowWidth h, ← e, not-false f k, ← e₁, not-false s k₁, ← e₂, not-false b k₂) e₃

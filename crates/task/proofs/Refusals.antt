@@ -1,4 +1,5 @@
--- The first refusal of a list of tests, test by test: a loop's invariant, and what it gives at each turn and at each way out.
+-- The first refusal of a list of tests, test by test: a loop's invariant, and what it gives at each turn and at each
+-- way out.
 use mathlib.Core.Path.{_≡_, refl, sym, ap, _∙_}
 use mathlib.Core.List.{List, [], _∷_}
 use Prim.Native.Nat.{ℕ, zero, suc, _+_, _≤_, _<_}
@@ -43,7 +44,8 @@ module _ (f : ℕ → ℕ) (xs : List ℕ) where
 
   module _ (k e : ℕ) (r : Rest f xs k) (h : k < length xs) (q : e ≡ f (getD xs k 0)) where
     pub onward : e ≡ 0 → Rest f xs (k + 1)
-    onward z = let z′ : f (getD xs k 0) ≡ 0 = sym q ∙ z in record { most = omega arith; rest = r .rest ∙ turn k h ∙ rw z′ }
+    onward z = let z′ : f (getD xs k 0) ≡ 0 =
+        sym q ∙ z in record { most = omega arith; rest = r .rest ∙ turn k h ∙ rw z′ }
 
     pub out : (e ≡ 0 → ⊥) → e ≡ firstRefusal f xs
     out z = first-refuses (f (getD xs k 0)) (firstRefusal f (drop (k + 1) xs)) e q z ∙ sym (turn k h) ∙ sym (r .rest)

@@ -5,7 +5,9 @@ ghost use Prim.Native.Nat.{_+_, _*_, _≤_, _<_};
 ghost use lib.ListN.{length};
 ghost use lib.Dec.{eqb};
 ghost use Rattle.semantics.specs.Base.{upTo, firstRefusal};
-ghost use Rattle.semantics.specs.Task.{rowWidth, word, facts, members, actions, initial, goal, actionWord, owner, pre, wait, add, del, headFits, goalRow, actionRow, check};
+ghost use Rattle.semantics.specs.Task.{rowWidth, word, facts, members, actions, initial, goal};
+ghost use Rattle.semantics.specs.Task.{actionWord, owner, pre, wait, add, del, headFits, goalRow};
+ghost use Rattle.semantics.specs.Task.{actionRow, check};
 ghost use Rattle.mask.specs.Number.{number};
 ghost use Rattle.semantics.specs.Mask.{below, within};
 ghost use Rattle.task.specs.Inner.Shape.{Sized, masksBelow, rowsRefusal};
@@ -62,7 +64,9 @@ fn head_fits(t: &[u64]) -> bool
 fn sized(t: &[u64]) -> bool
     requires { ⌜ rowWidth ≤ length (now t) ⌝ }
     requires { ⌜ headFits (now t) ≡ true ⌝ }
-    ensures { λ r. ⌜ r ≡ eqb (length (now (t .entry))) (rowWidth * (1 + members (now (t .entry)) + actions (now (t .entry)))) ⌝ }
+    ensures { λ r. ⌜ r
+        ≡ eqb (length (now (t .entry)))
+        (rowWidth * (1 + members (now (t .entry)) + actions (now (t .entry)))) ⌝ }
 {
     let n = t[1] as usize;
     let m = t[2] as usize;
@@ -105,7 +109,8 @@ fn goal_row(t: &[u64], i: usize) -> u64
 // The first refusal of a goal row.
 fn goal_rows(t: &[u64]) -> u64
     requires { ⌜ Sized (now t) ⌝ }
-    ensures { λ r. ⌜ r ≡ firstRefusal (goalRow (now (t .entry))) (upTo (members (now (t .entry)))) ⌝ }
+    ensures { λ r. ⌜ r
+        ≡ firstRefusal (goalRow (now (t .entry))) (upTo (members (now (t .entry)))) ⌝ }
 {
     let n = word(t, 0, 1) as usize;
     let mut i = 0;
@@ -192,7 +197,8 @@ fn action_row(t: &[u64], a: usize) -> u64
 // The first refusal of an action row.
 fn action_rows(t: &[u64]) -> u64
     requires { ⌜ Sized (now t) ⌝ }
-    ensures { λ r. ⌜ r ≡ firstRefusal (actionRow (now (t .entry))) (upTo (actions (now (t .entry)))) ⌝ }
+    ensures { λ r. ⌜ r
+        ≡ firstRefusal (actionRow (now (t .entry))) (upTo (actions (now (t .entry)))) ⌝ }
 {
     let m = word(t, 0, 2) as usize;
     let mut a = 0;

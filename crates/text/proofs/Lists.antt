@@ -246,7 +246,8 @@ module _ (w : ℕ) (p : List ℕ) where
 module _ (w : ℕ) (p : List ℕ) (done : List (List ℕ)) (ds : List ℕ) (parsed : Parsed p done ds) where
   pub dead-field : ((s : List ℕ) → isField (ds ++ s) ≡ false) → Dead w p
   dead-field h q =
-      record-bad w (p ++ q) (ap (allOf isField) (parsed q) ∙ all-fails isField done (fieldsFrom ds q) (fields-bad ds q h))
+      record-bad w (p ++ q)
+      (ap (allOf isField) (parsed q) ∙ all-fails isField done (fieldsFrom ds q) (fields-bad ds q h))
 
   pub dead-many : w ≤ length done → Dead w p
   dead-many h q =

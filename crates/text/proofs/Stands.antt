@@ -477,7 +477,8 @@ module _ {w limit : ℕ} {text ws : List ℕ} {k f : ℕ} where
       let n : s .done ≡ [] = none (s .done) (s .several ∙ z) in
       record {
         good =
-            text-good w limit text (omega (arith, ap length e, s .count, s .most)) (ap (allOf (isRecord w)) e ∙ s .sound);
+            text-good w limit text (omega (arith, ap length e, s .count, s .most))
+            (ap (allOf (isRecord w)) e ∙ s .sound);
         count = omega (arith, ap length e, s .count);
         words =
             words-text text (s .earlier) e ∙ sym (append-nil (wordsOf (s .earlier)))

@@ -1,5 +1,5 @@
-// The text reader: bytes in, words out. The reader of records goes by the fields of a record, `width`,
-// and the most records; the text reader is its instance for a task's rows.
+// The text reader: bytes in, words out. The reader of records goes by the fields of a record,
+// `width`, and the most records; the text reader is its instance for a task's rows.
 ghost use mathlib.Core.Path.{_≡_};
 ghost use Prim.Native.Nat.{_-_, _*_, _^_, _≤_, _<_};
 ghost use lib.ListN.{length};
@@ -212,8 +212,8 @@ pub fn start() -> Place
     }
 }
 
-// The reader of records: the words of the text go to the front of the slice, which is as long as the
-// most records ask.
+// The reader of records: the words of the text go to the front of the slice, which is as long as
+// the most records ask.
 pub fn scan_text(text: &[u8], words: &mut [u64], width: usize, most: usize) -> Scan
     requires { ⌜ 0 < width ⌝ }
     requires { ⌜ width * most ≤ length (now words) ⌝ }
@@ -252,16 +252,18 @@ pub fn scan_text(text: &[u8], words: &mut [u64], width: usize, most: usize) -> S
 
 // A refusal after which the slice is all zeros.
 fn refuse(words: &mut [u64], refusal: u64) -> TextRead
-    ensures { λ r. ⌜ (r ≡ TextRead.Refused refusal) × (now (words .exit) ≡ zeroed (now (words .entry))) ⌝ }
+    ensures { λ r. ⌜ (r ≡ TextRead.Refused refusal)
+        × (now (words .exit) ≡ zeroed (now (words .entry))) ⌝ }
 {
     rows::clear(words, 0);
     TextRead::Refused(refusal)
 }
 
-// The text reader: the text's words go to the front of the slice, zeros after them, and the answer is
-// the number of records; or a refusal.
+// The text reader: the text's words go to the front of the slice, zeros after them, and the answer
+// is the number of records; or a refusal.
 pub fn read(text: &[u8], words: &mut [u64]) -> TextRead
-    ensures { λ r. ⌜ reading r (now (words .exit)) ≡ readText (now (text .entry)) (now (words .entry)) ⌝ }
+    ensures { λ r. ⌜ reading r (now (words .exit))
+        ≡ readText (now (text .entry)) (now (words .entry)) ⌝ }
 {
     if words.len() < MOST_WORDS {
         return TextRead::Refused(14);

@@ -11,7 +11,8 @@ use lib.ListN.{length, List·getD-eq-default}
 use borrow.Author.Tests.{ltb-true, lt-ltb, leb-true, eqb-true, eq-eqb, not-true}
 use Rattle.semantics.specs.Base.{_if_}
 use Rattle.semantics.specs.Mask.{within, below}
-use Rattle.semantics.specs.Task.{rowWidth, word, facts, members, actions, initial, goal, actionWord, owner, pre, wait, add, del, headFits, goalRow, actionRow, check}
+use Rattle.semantics.specs.Task.{rowWidth, word, facts, members, actions, initial, goal, actionWord, owner, pre, wait}
+use Rattle.semantics.specs.Task.{add, del, headFits, goalRow, actionRow, check}
 use Rattle.semantics.specs.System.{Lawful, system, waits}
 use Rattle.theory.proofs.Lists.{lt-or-ge, not-true-false, and-elim}
 use Rattle.theory.proofs.Refusals.{else-both, if-not-true, upTo-refusal}
@@ -42,7 +43,8 @@ pub record Accepted (t : List ℕ) : Type 0 where
 goal-row : (t : List ℕ) (i : ℕ) → goalRow t i ≡ 0 → below (facts t) (goal t i) ≡ true
 unfolding goalRow
 goal-row t i h =
-    let shape = eqb (word t (1 + i) 0) i && eqb (word t (1 + i) 2) 0 && eqb (word t (1 + i) 3) 0 && eqb (word t (1 + i) 4) 0 in
+    let shape =
+    eqb (word t (1 + i) 0) i && eqb (word t (1 + i) 2) 0 && eqb (word t (1 + i) 3) 0 && eqb (word t (1 + i) 4) 0 in
     if-not-true 3 _ (else-both (3 if not shape) _ h .1)
 
 action-row : (t : List ℕ) (a : ℕ) → actionRow t a ≡ 0 → (owner t a < members t) × ActionFits t a
@@ -57,7 +59,8 @@ action-row t a h =
       record { pre-below = p; wait-below = q; add-below = c; del-below = d; wait-pre = if-not-true 5 _ w },
     )
 
-past-zero : (t : List ℕ) → length t ≡ rowWidth * (1 + members t + actions t) → (a k : ℕ) → actions t ≤ a → actionWord t a k ≡ 0
+past-zero : (t : List ℕ) → length t ≡ rowWidth * (1 + members t + actions t) → (a k : ℕ) → actions t ≤ a
+    → actionWord t a k ≡ 0
 past-zero t e a k h = List·getD-eq-default t 0 (omega arith)
 
 zero-below : (F x : ℕ) → x ≡ 0 → below F x ≡ true
@@ -100,7 +103,9 @@ accepted t h =
       initial-below = if-not-true 3 _ r₄;
       goal-below = λ i l. goal-row t i (upTo-refusal (goalRow t) _ goals i l);
       owner-member = λ a l. action-row t a (upTo-refusal (actionRow t) _ rows a l) .0;
-      action-fits = λ a. ⊎-elim (λ l. action-row t a (upTo-refusal (actionRow t) _ rows a l) .1) (past-fits t size a) (lt-or-ge a (actions t));
+      action-fits =
+          λ a. ⊎-elim (λ l. action-row t a (upTo-refusal (actionRow t) _ rows a l) .1) (past-fits t size a)
+          (lt-or-ge a (actions t));
     }
 
 -- a mask that lacks a fact that is waited for lacks a precondition

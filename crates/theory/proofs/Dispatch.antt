@@ -123,7 +123,8 @@ module _ (t plans ends : List ℕ) where
         each = λ picks. fits-each (start (system t)) (start-fits ok) picks ∙ made picks;
         impossible = λ picks j k q.
             pick-refusals (playP (start (system t)) picks) j k
-            (sym (fits-pick t plans ends (playP (start (system t)) picks) j (fits-play (start (system t)) (start-fits ok) picks))
+            (sym (fits-pick t plans ends (playP (start (system t)) picks) j
+            (fits-play (start (system t)) (start-fits ok) picks))
             ∙ ap (λ (r : Run ℕ). pickOn t plans ends r j) (made picks)
             ∙ q);
         atOnce = λ picks. fits-list (start (system t)) (start-fits ok) picks ∙ ap gives (made picks);

@@ -3,7 +3,8 @@ use mathlib.Core.Path.{_≡_, refl, sym, ap, subst, _∙_}
 use mathlib.Core.Bool.{Bool, true, false, cond, _&&_, _||_, true≢false, false≢true}
 use mathlib.Core.Logic.{_⊎_, inl, inr, ⊎-elim}
 use mathlib.Core.List.{List, [], _∷_, _++_, map, flatten}
-use mathlib.Core.List.{List·Memᴰ, List·Memᴰ·head, List·Memᴰ·tail, List·Memᴰ·not-nil, List·Memᴰ·cases-cons, Memᴰ·cast, Memᴰ·append-left, Memᴰ·append-right}
+use mathlib.Core.List.{List·Memᴰ, List·Memᴰ·head, List·Memᴰ·tail, List·Memᴰ·not-nil, List·Memᴰ·cases-cons, Memᴰ·cast}
+use mathlib.Core.List.{Memᴰ·append-left, Memᴰ·append-right}
 use Prim.Native.Nat.{ℕ, zero, suc, _+_, _≤_, _<_}
 use native.Mathlib.Nat.{not-suc-le-zero, le-of-suc-le-suc}
 use native.Mathlib.Omega.{arith}
@@ -140,7 +141,8 @@ module _ {A : Type 0} where
       unfolding collect
       collect-no x xs t = rw t
 
-      pub collect-mem : {y : B} (xs : List A) → List·Memᴰ y (collect p f xs) → (x : A) × List·Memᴰ x xs × (p x ≡ true) × (y ≡ f x)
+      pub collect-mem : {y : B} (xs : List A) → List·Memᴰ y (collect p f xs)
+          → (x : A) × List·Memᴰ x xs × (p x ≡ true) × (y ≡ f x)
       unfolding collect
       collect-mem [] m = absurd (List·Memᴰ·not-nil m)
       collect-mem {y} (x ∷ xs) m =
@@ -185,7 +187,8 @@ pub mem-range : (i k c : ℕ) → k ≤ i → i < k + c → List·Memᴰ i (numb
 unfolding numbersFrom
 mem-range i k zero l h = absurd (omega arith)
 mem-range i k (suc c) l h =
-    ⊎-elim (λ (g : k < i). List·Memᴰ·tail (mem-range i (suc k) c g (omega arith))) (λ (g : i ≤ k). List·Memᴰ·head (omega arith)) (lt-or-ge k i)
+    ⊎-elim (λ (g : k < i). List·Memᴰ·tail (mem-range i (suc k) c g (omega arith)))
+    (λ (g : i ≤ k). List·Memᴰ·head (omega arith)) (lt-or-ge k i)
 
 pub upTo-mem : {i : ℕ} (n : ℕ) → List·Memᴰ i (upTo n) → i < n
 upTo-mem n m = let r = range-mem 0 n m in omega arith
@@ -225,7 +228,8 @@ getD-range : {A : Type 0} (f : ℕ → A) (k c i : ℕ) (d : A) → i < c → ge
 unfolding numbersFrom
 getD-range f k zero i d h = absurd (omega arith)
 getD-range f k (suc c) zero d h = let e : k ≡ k + 0 = omega arith in ap f e
-getD-range f k (suc c) (suc i) d h = let e : suc k + i ≡ k + suc i = omega arith in getD-range f (suc k) c i d (omega arith) ∙ ap f e
+getD-range f k (suc c) (suc i) d h = let e : suc k + i ≡ k + suc i =
+    omega arith in getD-range f (suc k) c i d (omega arith) ∙ ap f e
 
 pub getD-upTo : {A : Type 0} (f : ℕ → A) (n i : ℕ) (d : A) → i < n → getD (map f (upTo n)) i d ≡ f i
 getD-upTo f n i d h = let e : 0 + i ≡ i = omega arith in getD-range f 0 n i d h ∙ ap f e
@@ -246,7 +250,8 @@ getD-any [] k d e l = absurd (not-suc-le-zero l)
 getD-any (x ∷ xs) zero d e l = refl
 getD-any (x ∷ xs) (suc k) d e l = getD-any xs k d e (le-of-suc-le-suc l)
 
-pub getD-map : {A B : Type 0} (f : A → B) (xs : List A) (k : ℕ) (d : A) (e : B) → k < length xs → getD (map f xs) k e ≡ f (getD xs k d)
+pub getD-map : {A B : Type 0} (f : A → B) (xs : List A) (k : ℕ) (d : A) (e : B) → k < length xs
+    → getD (map f xs) k e ≡ f (getD xs k d)
 getD-map f [] k d e l = absurd (not-suc-le-zero l)
 getD-map f (x ∷ xs) zero d e l = refl
 getD-map f (x ∷ xs) (suc k) d e l = getD-map f xs k d e (le-of-suc-le-suc l)

@@ -2,7 +2,8 @@
 use mathlib.Core.Path.{_≡_, refl, sym, ap, _∙_}
 use mathlib.Core.Bool.{Bool, true, false, not, _&&_, _||_, false≢true}
 use Prim.Native.Nat.{ℕ, zero, suc, _-_, _/_, _%_, _^_, _≤_, _<_, zero-le}
-use native.Mathlib.Nat.{pow-suc, div-one, zero-div, div-eq-of-lt, div-div-eq-div-mul, sub-le, lt-of-lt-of-le, lt-of-le-of-lt, pow-succ'}
+use native.Mathlib.Nat.{pow-suc, div-one, zero-div, div-eq-of-lt, div-div-eq-div-mul, sub-le, lt-of-lt-of-le}
+use native.Mathlib.Nat.{lt-of-le-of-lt, pow-succ'}
 use native.Mathlib.Omega.{arith}
 use lib.Arith.{bin-ind}
 use lib.Pow.{pow-mono}
@@ -156,4 +157,5 @@ pub after-below : (F s add del : ℕ) → below F s ≡ true → below F add ≡
 unfolding below after
 after-below F s add del hs ha =
     lt-ltb (after s add del) (2 ^ F)
-    (or-lt F (s - bitAnd s del) add (lt-of-le-of-lt (sub-le s (bitAnd s del)) (ltb-true s (2 ^ F) hs)) (ltb-true add (2 ^ F) ha))
+    (or-lt F (s - bitAnd s del) add (lt-of-le-of-lt (sub-le s (bitAnd s del)) (ltb-true s (2 ^ F) hs))
+    (ltb-true add (2 ^ F) ha))

@@ -40,11 +40,14 @@ module _ (S : System) (W : Waits S) (plans : List (List ℕ)) where
     nobody : S .members ≤ j → Picked r j (refused 8)
     closed : j < S .members → isClosed (r .closed) ≡ true → Picked r j (refused 13)
     over : j < S .members → r .closed ≡ not-yet → rest plans r j ≡ [] → Picked r j (refused 13)
-    waits : {a : ℕ} {p : List ℕ} → j < S .members → r .closed ≡ not-yet → rest plans r j ≡ a ∷ p → W a (r .shared) ≡ true
+    waits : {a : ℕ} {p : List ℕ} → j < S .members → r .closed ≡ not-yet → rest plans r j ≡ a ∷ p
+        → W a (r .shared) ≡ true
         → Picked r j (refused 13)
-    goes : {a : ℕ} {p : List ℕ} → j < S .members → r .closed ≡ not-yet → rest plans r j ≡ a ∷ p → W a (r .shared) ≡ false
+    goes : {a : ℕ} {p : List ℕ} → j < S .members → r .closed ≡ not-yet → rest plans r j ≡ a ∷ p
+        → W a (r .shared) ≡ false
         → able S a (r .shared) ≡ true → Picked r j (advance r j (Decision.go (result S a (r .shared))))
-    collides : {a : ℕ} {p : List ℕ} → j < S .members → r .closed ≡ not-yet → rest plans r j ≡ a ∷ p → W a (r .shared) ≡ false
+    collides : {a : ℕ} {p : List ℕ} → j < S .members → r .closed ≡ not-yet → rest plans r j ≡ a ∷ p
+        → W a (r .shared) ≡ false
         → able S a (r .shared) ≡ false → Picked r j (advance r j Decision.collision)
 
   pub picked : (r : Run (S .State)) (j : ℕ) → Picked r j (pick S W plans r j)
@@ -57,7 +60,8 @@ module _ (S : System) (W : Waits S) (plans : List (List ℕ)) where
       decision a p h c e d (Decided.goes w b) = goes h c e w b
       decision a p h c e d (Decided.collides w b) = collides h c e w b
 
-      step : (p : List ℕ) → j < S .members → r .closed ≡ not-yet → rest plans r j ≡ p → Picked r j (pickStep S W plans r j p)
+      step : (p : List ℕ) → j < S .members → r .closed ≡ not-yet → rest plans r j ≡ p
+          → Picked r j (pickStep S W plans r j p)
       step [] h c e = over h c e
       step (a ∷ p) h c e = decision a p h c e (routine S W a (r .shared)) (decided S W a (r .shared))
 
@@ -67,7 +71,8 @@ module _ (S : System) (W : Waits S) (plans : List (List ℕ)) where
       still not-yet h c = step (rest plans r j) h c refl
 
       who : (b : Bool) → ltb j (S .members) ≡ b
-          → Picked r j (unless ((8 if not b) else (13 if isClosed (r .closed))) (pickStep S W plans r j (rest plans r j)))
+          → Picked r j
+          (unless ((8 if not b) else (13 if isClosed (r .closed))) (pickStep S W plans r j (rest plans r j)))
       who true e = still (r .closed) (ltb-true j (S .members) e) refl
       who false e = nobody (ltb-false j (S .members) e)
 

@@ -1,5 +1,5 @@
--- Plans in one slice: a list of plans, laid end to end, with their ends. Joint replay reads back the list, and does not refuse plans that
--- solve. Plans that are not refused, read by a run. Assumes nothing.
+-- Plans in one slice: a list of plans, laid end to end, with their ends. Joint replay reads back the list, and does not
+-- refuse plans that solve. Plans that are not refused, read by a run. Assumes nothing.
 use mathlib.Core.Path.{_≡_, refl, sym, ap, subst, _∙_}
 use mathlib.Core.Bool.{true}
 use mathlib.Core.List.{List, [], _∷_, _++_, flatten, append-assoc}
@@ -41,7 +41,8 @@ last-ends : (k : ℕ) (ps : List (List ℕ)) → getD (k ∷ endsFrom k ps) (len
 unfolding endsFrom flatten
 last-ends k [] = omega arith
 last-ends k (p ∷ ps) =
-    let e : k + length p + length (flatten ps) ≡ k + length (p ++ flatten ps) = omega (arith, length-append p (flatten ps)) in
+    let e : k + length p + length (flatten ps) ≡ k + length (p ++ flatten ps) =
+    omega (arith, length-append p (flatten ps)) in
     last-ends (k + length p) ps ∙ e
 
 -- plan j, read back after whatever stands before the first
@@ -54,7 +55,8 @@ reads-back front k (p ∷ ps) zero e h =
     ∙ ap (drop k) (take-at (front ++ p) (flatten ps) (k + length p) (omega (arith, length-append front p)))
     ∙ drop-at front p k e
 reads-back front k (p ∷ ps) (suc j) e h =
-    ap (slice (getD ((k + length p) ∷ endsFrom (k + length p) ps) j 0) (getD (endsFrom (k + length p) ps) j 0)) (sym (append-assoc front p (flatten ps)))
+    ap (slice (getD ((k + length p) ∷ endsFrom (k + length p) ps) j 0) (getD (endsFrom (k + length p) ps) j 0))
+    (sym (append-assoc front p (flatten ps)))
     ∙ reads-back (front ++ p) (k + length p) ps j (omega (arith, length-append front p)) (omega arith)
 
 module _ (ps : List (List ℕ)) where
@@ -64,7 +66,9 @@ module _ (ps : List (List ℕ)) where
   pub laid-plans : (n : ℕ) → length ps ≡ n → plansOf n (flatten ps) (endsFrom 0 ps) ≡ ps
   laid-plans n e =
       ext-getD [] (plansOf n (flatten ps) (endsFrom 0 ps)) ps (plans-length ∙ sym e)
-      (λ j h. let b : j < n = omega (arith, plans-length) in getD-upTo (planOf (flatten ps) (endsFrom 0 ps)) n j [] b ∙ laid-plan j (omega arith))
+      (λ j h. let b : j < n =
+      omega (arith, plans-length) in
+      getD-upTo (planOf (flatten ps) (endsFrom 0 ps)) n j [] b ∙ laid-plan j (omega arith))
     where
       plans-length : length (plansOf n (flatten ps) (endsFrom 0 ps)) ≡ n
       plans-length = length-map (upTo n) (planOf (flatten ps) (endsFrom 0 ps)) ∙ upTo-length n
@@ -92,7 +96,8 @@ leads-solves S i k (next {s = s} {a = a} own b l) = rw b (leads-solves S i (suc 
 pub leads-entries : (t : List ℕ) (i : ℕ) {s : ℕ} {p : List ℕ} → Leads (system t) i s p → firstRefusal (entry t i) p ≡ 0
 unfolding firstRefusal
 leads-entries t i (done g) = refl
-leads-entries t i (next {a = a} own b l) = rw (lt-ltb a (actions t) (own .0), eq-eqb (owner t a) i (own .1)) (leads-entries t i l)
+leads-entries t i (next {a = a} own b l) =
+    rw (lt-ltb a (actions t) (own .0), eq-eqb (owner t a) i (own .1)) (leads-entries t i l)
 
 module _ (t : List ℕ) (accepted : check t ≡ 0) (ps : List (List ℕ)) (many : length ps ≡ members t)
     (solving : (j : ℕ) → j < members t → Solves (system t) j (getD ps j [])) where
@@ -106,7 +111,8 @@ module _ (t : List ℕ) (accepted : check t ≡ 0) (ps : List (List ℕ)) (many 
       let l = solving j h in
       rw (laid-plan ps j (subst (λ (x : ℕ). j < x) (sym many) h), leads-entries t j l, leads-solves (system t) j 0 l)))
 
-  pub laid-replays : (picks : List ℕ) → jointReplay t (flatten ps) (endsFrom 0 ps) picks ≡ replay (system t) (waits t) ps picks
+  pub laid-replays : (picks : List ℕ)
+      → jointReplay t (flatten ps) (endsFrom 0 ps) picks ≡ replay (system t) (waits t) ps picks
   unfolding jointReplay
   laid-replays picks = rw (laid-accepted, laid-plans ps (members t) many)
 

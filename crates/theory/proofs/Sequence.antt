@@ -10,7 +10,8 @@ use Rattle.semantics.specs.Demands.{RunFits}
 use Rattle.theory.proofs.Dispatch.{fits-list, fits-play}
 
 module _ (S : System) (W : Waits S) (plans : List (List ℕ)) where
-  pub play-append : (r : Run (S .State)) (xs ys : List ℕ) → play S W plans r (xs ++ ys) ≡ play S W plans (play S W plans r xs) ys
+  pub play-append : (r : Run (S .State)) (xs ys : List ℕ)
+      → play S W plans r (xs ++ ys) ≡ play S W plans (play S W plans r xs) ys
   unfolding play
   play-append r [] ys = refl
   play-append r (j ∷ xs) ys = play-append (passOver r (pick S W plans r j)) xs ys
@@ -35,7 +36,8 @@ module _ (S : System) (W : Waits S) (plans : List (List ℕ)) where
   replay-append (refused e) k (j ∷ xs) [] = refl
   replay-append (refused e) k (j ∷ xs) (i ∷ ys) = refl
   replay-append (gives r) k [] ys = refl
-  replay-append (gives r) k (j ∷ xs) ys = replay-append (runAfter (pick S W plans r j)) (tally k (pick S W plans r j)) xs ys
+  replay-append (gives r) k (j ∷ xs) ys =
+      replay-append (runAfter (pick S W plans r j)) (tally k (pick S W plans r j)) xs ys
 
 -- the dispatcher's list of picks, on a run that is not refused
 module _ (t plans ends : List ℕ) (r : Run ℕ) (f : RunFits t plans ends r) where

@@ -1,5 +1,5 @@
--- Demand 2 for solo search: the table holds the states that the agent alone can bring about, each once, and its marks say from which
--- of them the agent alone can go on to its goal.
+-- Demand 2 for solo search: the table holds the states that the agent alone can bring about, each once, and its marks
+-- say from which of them the agent alone can go on to its goal.
 use mathlib.Core.Path.{_≡_, refl, sym, ap, subst, _∙_}
 use mathlib.Core.Bool.{Bool, true, false, false≢true}
 use mathlib.Core.Logic.{_↔_, ⊎-elim, Iff·trans}
@@ -19,7 +19,8 @@ use Rattle.semantics.specs.System.{Lawful, system, waits, Live}
 use Rattle.semantics.specs.Listing.{mem, Reach, here, step}
 use Rattle.semantics.specs.Solo.{soloNext, copies, liveOf, marksOf, Searched, SoloSearch, searchRefusal, soloSearch}
 use Rattle.semantics.specs.Model.{FactSet, _⊆_, apply, Executes, Solution, none, then}
-use Rattle.semantics.specs.Demands.{factsOf, setting, Reachable, Completable, Solvable, Distinct, Lists, Exceed, Breadth, SearchedRows, SoloSearchAgrees}
+use Rattle.semantics.specs.Demands.{factsOf, setting, Reachable, Completable, Solvable, Distinct, Lists, Exceed}
+use Rattle.semantics.specs.Demands.{Breadth, SearchedRows, SoloSearchAgrees}
 use Rattle.theory.proofs.Lists.{getD-map, lt-or-ge, mem-getD, test-ext}
 use Rattle.theory.proofs.Refusals.{else-both, refused-gives, gives-inj}
 use Rattle.theory.proofs.Masks.{sub-within}
@@ -28,19 +29,22 @@ use Rattle.theory.proofs.Agrees.Step.{facts-after, same-facts}
 use Rattle.theory.proofs.Agrees.Solo.{leads-iff}
 use Rattle.theory.proofs.Listing.{nodup-index, index-nodup, pigeonhole, listing-breadth}
 use Rattle.theory.proofs.Attempts.{result-after, within-goes, able-sub}
-use Rattle.theory.proofs.Live.{Steps, goes-steps, soloNext-steps, steps-soloNext, copies-nodup, copies-reachable, reachable-copies, live-sound, copies-live}
+use Rattle.theory.proofs.Live.{Steps, goes-steps, soloNext-steps, steps-soloNext, copies-nodup, copies-reachable}
+use Rattle.theory.proofs.Live.{reachable-copies, live-sound, copies-live}
 
 -- ---- local copies against states of the model
 
 module _ (t : List ℕ) (i : ℕ) where
   -- one more action at the end
-  executes-snoc : {u v : FactSet} {π : List ℕ} (a : ℕ) → Executes (setting t) i u π v → setting t .ActionOf i a → setting t .pre a ⊆ v
+  executes-snoc : {u v : FactSet} {π : List ℕ} (a : ℕ) → Executes (setting t) i u π v → setting t .ActionOf i a
+      → setting t .pre a ⊆ v
       → Executes (setting t) i u (π ++ (a ∷ [])) (apply (setting t) a v)
   executes-snoc a none o p = then o p none
   executes-snoc a (then o′ p′ e) o p = then o′ p′ (executes-snoc a e o p)
 
   reach-reachable : {s : ℕ} → Reach (soloNext (system t) i) (system t .init) s → Reachable t i s
-  reach-reachable (here e) = ([], subst (λ (x : ℕ). Executes (setting t) i (setting t .init) [] (factsOf x)) (sym e) none)
+  reach-reachable (here e) =
+      ([], subst (λ (x : ℕ). Executes (setting t) i (setting t .init) [] (factsOf x)) (sym e) none)
   reach-reachable {s} (step {x = x} r m) =
       let h = reach-reachable r in
       let c = soloNext-steps (system t) i x s m in
@@ -53,14 +57,16 @@ module _ (t : List ℕ) (i : ℕ) where
       )
 
   -- an execution from a copy that can be reached ends in one
-  executes-reach : {u v : FactSet} {π : List ℕ} → Executes (setting t) i u π v → (x : ℕ) → u ≡ factsOf x → Reach (soloNext (system t) i) (system t .init) x
+  executes-reach : {u v : FactSet} {π : List ℕ} → Executes (setting t) i u π v → (x : ℕ) → u ≡ factsOf x
+      → Reach (soloNext (system t) i) (system t .init) x
       → (y : ℕ) × (v ≡ factsOf y) × Reach (soloNext (system t) i) (system t .init) y
   executes-reach none x e r = (x, e, r)
   executes-reach (then {a = a} o p q) x e r =
       let y = after x (Task.add t a) (Task.del t a) in
       let holds = sub-within (Task.pre t a) x (subst (λ (w : FactSet). setting t .pre a ⊆ w) e p) in
       let c : Steps (system t) i x y = goes-steps (system t) i x y a o (within-goes t a x holds) in
-      executes-reach q y (ap (apply (setting t) a) e ∙ sym (facts-after t a x)) (step r (steps-soloNext (system t) i x y c))
+      executes-reach q y (ap (apply (setting t) a) e ∙ sym (facts-after t a x))
+      (step r (steps-soloNext (system t) i x y c))
 
   pub reachable-iff : (s : ℕ) → Reach (soloNext (system t) i) (system t .init) s ↔ Reachable t i s
   reachable-iff s = (
@@ -72,8 +78,12 @@ module _ (t : List ℕ) (i : ℕ) where
   )
 
   pub completable-iff : (s : ℕ) → Live (system t) i s ↔ Completable t i s
-  completable-iff s =
-      (λ l. let h = leads-iff t i s (l .0) .0 (l .1) in (l .0, h .0, h .1, h .2), λ c. (c .0, leads-iff t i s (c .0) .1 (c .1, c .2, c .3)))
+  completable-iff s = (
+    λ l. let h =
+        leads-iff t i s (l .0) .0 (l .1) in
+        (l .0, h .0, h .1, h .2),
+    λ c. (c .0, leads-iff t i s (c .0) .1 (c .1, c .2, c .3)),
+  )
 
 -- ---- what the search answers
 
@@ -81,7 +91,8 @@ if-one : (b : Bool) → (1 if b ≡ 1) ↔ (b ≡ true)
 if-one true = (λ h. refl, λ h. refl)
 if-one false = (λ h. absurd (omega arith), λ h. absurd (false≢true h))
 
-module _ (t : List ℕ) (i : ℕ) (table marks : List ℕ) (accepts : searchRefusal t i (length table) (length marks) ≡ 0) where
+module _ (t : List ℕ) (i : ℕ) (table marks : List ℕ)
+    (accepts : searchRefusal t i (length table) (length marks) ≡ 0) where
   abbrev rows : List ℕ
   rows = copies (system t) i (length table)
 
@@ -111,7 +122,8 @@ module _ (t : List ℕ) (i : ℕ) (table marks : List ℕ) (accepts : searchRefu
     λ r. reachable-copies (system t) (waits t) lawful i (length table) b s (reachable-iff t i s .1 r),
   )
 
-  found-live : length rows ≤ length table → (s : ℕ) → List·Memᴰ s rows → (mem eqb s (liveOf (system t) i rows) ≡ true) ↔ Completable t i s
+  found-live : length rows ≤ length table → (s : ℕ) → List·Memᴰ s rows
+      → (mem eqb s (liveOf (system t) i rows) ≡ true) ↔ Completable t i s
   found-live b s m = (
     λ h. completable-iff t i s .0 (live-sound (system t) (waits t) lawful i rows s h),
     λ c. copies-live (system t) (waits t) lawful i (length table) b s m (completable-iff t i s .1 c),
@@ -125,7 +137,10 @@ module _ (t : List ℕ) (i : ℕ) (table marks : List ℕ) (accepts : searchRefu
       let mark : ℕ → ℕ = λ s. 1 if mem eqb s live in
       let s = getD rows k 0 in
       let n : k < length (map mark rows) = rw length-map l in
-      rw (List·getD-append (map mark rows) (replicate (length marks - length (map mark rows)) 0) 0 k n, getD-map mark rows k 0 0 l)
+      rw (
+        List·getD-append (map mark rows) (replicate (length marks - length (map mark rows)) 0) 0 k n,
+        getD-map mark rows k 0 0 l,
+      )
       (Iff·trans (if-one (mem eqb s live)) (found-live b s (mem-getD rows k 0 l)))
 
   rows-distinct : Distinct 0 rows
@@ -139,7 +154,9 @@ module _ (t : List ℕ) (i : ℕ) (table marks : List ℕ) (accepts : searchRefu
 
   start-live : length rows ≤ length table → (startLive ≡ true) ↔ Solvable t i
   start-live b =
-      let first = found-live b (system t .init) (reachable-copies (system t) (waits t) lawful i (length table) b (system t .init) (here refl)) in
+      let first =
+      found-live b (system t .init)
+      (reachable-copies (system t) (waits t) lawful i (length table) b (system t .init) (here refl)) in
       (λ h. let c = first .0 h in (c .0, (c .1, c .2, c .3)), λ p. first .1 (p .0, p .1 .0, p .1 .1, p .1 .2))
 
   rows-listed : length rows ≤ length table → Lists 0 (Reachable t i) rows
@@ -150,7 +167,8 @@ module _ (t : List ℕ) (i : ℕ) (table marks : List ℕ) (accepts : searchRefu
   rows-breadth b = listing-breadth eqb (soloNext (system t) i) (Task.initial t) (Task.initial t) (length table) b
 
   -- different copies that can be reached are no more than the rows, where these fit
-  most : length rows ≤ length table → (xs : List ℕ) → Distinct 0 xs → ((x : ℕ) → List·Memᴰ x xs → Reachable t i x) → length xs ≤ length rows
+  most : length rows ≤ length table → (xs : List ℕ) → Distinct 0 xs → ((x : ℕ) → List·Memᴰ x xs → Reachable t i x)
+      → length xs ≤ length rows
   most b xs distinct reach = pigeonhole rows (index-nodup 0 xs distinct) (λ x m. found-reachable b x .1 (reach x m))
 
   exceeds : Exceed 0 (Reachable t i) (length table) → length table < length rows
@@ -159,7 +177,8 @@ module _ (t : List ℕ) (i : ℕ) (table marks : List ℕ) (accepts : searchRefu
       (λ b. let p = most b (x .some) (x .distinct) (x .each) in omega (arith, x .more))
       (lt-or-ge (length table) (length rows))
 
-  answered : length rows ≤ length table → soloSearch t i table marks .answer ≡ gives (record { count = length rows; live = startLive })
+  answered : length rows ≤ length table
+      → soloSearch t i table marks .answer ≡ gives (record { count = length rows; live = startLive })
   answered b = ap (λ (r : SoloSearch). r .answer) (search-found b)
 
   full-exceeds : soloSearch t i table marks .answer ≡ refused 9 → Exceed 0 (Reachable t i) (length table)
@@ -171,7 +190,8 @@ module _ (t : List ℕ) (i : ℕ) (table marks : List ℕ) (accepts : searchRefu
 
   -- an answer is given only where the rows fit
   answer-fits : (c : Searched) → soloSearch t i table marks .answer ≡ gives c → length rows ≤ length table
-  answer-fits c e = ⊎-elim (λ l. absurd (refused-gives (sym (search-full l) ∙ e))) (λ b. b) (lt-or-ge (length table) (length rows))
+  answer-fits c e =
+      ⊎-elim (λ l. absurd (refused-gives (sym (search-full l) ∙ e))) (λ b. b) (lt-or-ge (length table) (length rows))
 
   abbrev Counted : Searched → Type 0
   Counted c =
@@ -187,7 +207,8 @@ module _ (t : List ℕ) (i : ℕ) (table marks : List ℕ) (accepts : searchRefu
   counted-answer : (c : Searched) → Counted c → soloSearch t i table marks .answer ≡ gives c
   counted-answer c (few, (xs, l, n), live) =
       let back : length rows ≤ length xs =
-      pigeonhole xs (copies-nodup (system t) (waits t) lawful i (length table)) (λ x m. l .just x .1 (rows-reachable x m)) in
+      pigeonhole xs (copies-nodup (system t) (waits t) lawful i (length table))
+      (λ x m. l .just x .1 (rows-reachable x m)) in
       let b : length rows ≤ length table = omega arith in
       let forth = most b xs (l .distinct) (λ x m. l .just x .0 m) in
       let count : length rows ≡ c .count = omega arith in
@@ -202,16 +223,21 @@ module _ (t : List ℕ) (i : ℕ) (table marks : List ℕ) (accepts : searchRefu
       let q = take-append-seam rows (replicate (length table - length rows) 0) in
       let r : SearchedRows t i rows (padded (length marks) (marksOf (system t) i rows)) =
       record { listed = rows-listed b; breadth = rows-breadth b; marked = found-mark b } in
-      subst (λ (x : Searched). SearchedRows t i (take (x .count) (soloSearch t i table marks .table)) (soloSearch t i table marks .marks))
+      subst (λ (x : Searched). SearchedRows t i (take (x .count) (soloSearch t i table marks .table))
+      (soloSearch t i table marks .marks))
       (gives-inj (sym (answered b) ∙ e))
       (subst (λ (x : SoloSearch). SearchedRows t i (take (length rows) (x .table)) (x .marks)) (sym (search-found b))
       (subst (λ (xs : List ℕ). SearchedRows t i xs (padded (length marks) (marksOf (system t) i rows))) (sym q) r))
 
-pub solo-search-agrees : (t : List ℕ) (i : ℕ) (table marks : List ℕ) → searchRefusal t i (length table) (length marks) ≡ 0
+pub solo-search-agrees : (t : List ℕ) (i : ℕ) (table marks : List ℕ)
+    → searchRefusal t i (length table) (length marks) ≡ 0
     → SoloSearchAgrees t i table marks
 solo-search-agrees t i table marks accepts =
     record {
-      full = (full-exceeds t i table marks accepts, λ x. search-full t i table marks accepts (exceeds t i table marks accepts x));
+      full = (
+        full-exceeds t i table marks accepts,
+        λ x. search-full t i table marks accepts (exceeds t i table marks accepts x),
+      );
       counted = λ count live.
           let c : Searched = record { count = count; live = live } in
           (answer-counted t i table marks accepts c, counted-answer t i table marks accepts c);

@@ -1,5 +1,5 @@
--- What a verdict tells of the worked laws that are not robust: collision of L2, deadlock of L3, missed 0 of L7, since their listed
--- configurations show no other fault. Assumes nothing.
+-- What a verdict tells of the worked laws that are not robust: collision of L2, deadlock of L3, missed 0 of L7, since
+-- their listed configurations show no other fault. Assumes nothing.
 use mathlib.Core.Path.{_≡_, refl, ap, subst, _∙_}
 use mathlib.Core.Bool.{true, false≢true}
 use mathlib.Core.List.{List, [], _∷_, map, flatten, List·Memᴰ, List·Memᴰ·eq-of-singleton}
@@ -34,14 +34,18 @@ told-fault t before after told f only means =
     let each = faults (system t) (waits t) (liveFor t (room before)) in
     List·Memᴰ·eq-of-singleton
     (subst (List·Memᴰ (told .fault)) only
-    (addAll-new sameFault same-fault [] (flatten (map each (listedIn t (room before)))) (mem-flatten each listed shows)))
+    (addAll-new sameFault same-fault [] (flatten (map each (listedIn t (room before))))
+    (mem-flatten each listed shows)))
 
 module _ (before after : Slices) (told : Failing) where
-  pub l2-collides : room before ≡ roomFor l2 plenty plenty → VerdictMeans l2 before after (gives (notRobust told)) → told .fault ≡ collision
+  pub l2-collides : room before ≡ roomFor l2 plenty plenty → VerdictMeans l2 before after (gives (notRobust told))
+      → told .fault ≡ collision
   l2-collides r = told-fault l2 before after told collision (ap (shownIn l2) r ∙ row-holds table laws-hold 3)
 
-  pub l3-deadlocks : room before ≡ roomFor l3 plenty plenty → VerdictMeans l3 before after (gives (notRobust told)) → told .fault ≡ deadlock
+  pub l3-deadlocks : room before ≡ roomFor l3 plenty plenty → VerdictMeans l3 before after (gives (notRobust told))
+      → told .fault ≡ deadlock
   l3-deadlocks r = told-fault l3 before after told deadlock (ap (shownIn l3) r ∙ row-holds table laws-hold 6)
 
-  pub l7-misses : room before ≡ roomFor l7 plenty plenty → VerdictMeans l7 before after (gives (notRobust told)) → told .fault ≡ missed 0
+  pub l7-misses : room before ≡ roomFor l7 plenty plenty → VerdictMeans l7 before after (gives (notRobust told))
+      → told .fault ≡ missed 0
   l7-misses r = told-fault l7 before after told (missed 0) (ap (shownIn l7) r ∙ row-holds table laws-hold 12)

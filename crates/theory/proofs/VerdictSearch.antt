@@ -1,5 +1,6 @@
--- What the verdict's search lists, and when it refuses, in terms of the model: 9 exactly, unsolvable with the lowest agent that has no
--- individual solution, and the configurations that can be reached, each once, in breadth order. Assumes nothing.
+-- What the verdict's search lists, and when it refuses, in terms of the model: 9 exactly, unsolvable with the lowest
+-- agent that has no individual solution, and the configurations that can be reached, each once, in breadth order.
+-- Assumes nothing.
 use mathlib.Core.Path.{_≡_, refl, sym, ap, subst, _∙_}
 use mathlib.Core.Bool.{Bool, true, false}
 use mathlib.Core.Logic.{_⊎_, inl, inr, ⊎-elim, _↔_}
@@ -15,8 +16,11 @@ use Rattle.semantics.specs.System.{able, result, Lawful, system, waits, Live}
 use Rattle.semantics.specs.Listing.{Reach, here, step}
 use Rattle.semantics.specs.Solo.{copies}
 use Rattle.semantics.specs.Model.{_⊆_}
-use Rattle.semantics.specs.Verdict.{Room, localRows, configurationRows, tooShort, unsolvable, notRobust, robust, Finding, sameRow, localCopy, sharedCopy, startRow, moves, configurations, verdictIn, verdict, liveFor, listedIn}
-use Rattle.semantics.specs.Demands.{factsOf, setting, Reachable, Completable, Solvable, Lists, Exceed, Configured, at-start, by-move, ListedRows, CopiesExceed, VerdictSearch, Searches}
+use Rattle.semantics.specs.Verdict.{Room, localRows, configurationRows, tooShort, unsolvable, notRobust, robust}
+use Rattle.semantics.specs.Verdict.{Finding, sameRow, localCopy, sharedCopy, startRow, moves, configurations, verdictIn}
+use Rattle.semantics.specs.Verdict.{verdict, liveFor, listedIn}
+use Rattle.semantics.specs.Demands.{factsOf, setting, Reachable, Completable, Solvable, Lists, Exceed, Configured}
+use Rattle.semantics.specs.Demands.{at-start, by-move, ListedRows, CopiesExceed, VerdictSearch, Searches}
 use Rattle.theory.proofs.Lists.{lt-or-ge, true-not-false, not-false-true, apart}
 use Rattle.theory.proofs.Refusals.{refused-gives, gives-inj}
 use Rattle.theory.proofs.Attempts.{able-sub, sub-able}
@@ -25,8 +29,10 @@ use Rattle.theory.proofs.Agrees.Solo.{leads-solution, solution-leads}
 use Rattle.theory.proofs.SoloSearch.{reachable-iff, completable-iff}
 use Rattle.theory.proofs.Listing.{Nodup, nodup-index, index-nodup, pigeonhole, listing-nodup, listing-breadth}
 use Rattle.theory.proofs.Live.{copies-nodup, copies-reachable, reachable-copies}
-use Rattle.theory.proofs.Rows.{LiveTest, moves-move, move-moves, ready-able, ready-live, able-ready, solo-step, good-reach}
-use Rattle.theory.proofs.Verdict.{row-refl, Fits, lively-test, listed-reach, reach-listed, Searched, Found, found}
+use Rattle.theory.proofs.Rows.{LiveTest, moves-move, move-moves, ready-able, ready-live, able-ready, solo-step}
+use Rattle.theory.proofs.Rows.{good-reach}
+use Rattle.theory.proofs.Verdict.{row-refl, Fits, lively-test, listed-reach, reach-listed, Searched, Found}
+use Rattle.theory.proofs.Verdict.{found}
 
 module _ (t : List ℕ) (room : Room) (ok : check t ≡ 0) (long : tooShort t room ≡ false) where
   abbrev K : ℕ
@@ -96,7 +102,8 @@ module _ (t : List ℕ) (room : Room) (ok : check t ≡ 0) (long : tooShort t ro
         let goes′ = subst (λ (k : ℕ). Completable t k (result (system t) a (localCopy (system t) c k))) (sym o) goes in
         let able = sub-able t a s local′ in
         let good = good-reach (system t) live (lawful .owned) reach .locals j h in
-        let lives = test .complete j (result (system t) a s) h (step good (solo-step (system t) live j a s (l, refl) able))
+        let lives =
+        test .complete j (result (system t) a s) h (step good (solo-step (system t) live j a s (l, refl) able))
         (completable-iff t j (result (system t) a s) .1 goes′) in
         step reach
         (move-moves (system t) live c a l (able-ready (system t) live c a able lives)
@@ -114,14 +121,17 @@ module _ (t : List ℕ) (room : Room) (ok : check t ≡ 0) (long : tooShort t ro
         (able-sub t a s (ready-able (system t) live c a (v .isReady)))
         (able-sub t a (sharedCopy (system t) c) (v .isAble))
         (completable-iff t j (result (system t) a s) .0
-        (test .sound j (result (system t) a s) (lawful .owned a (v .listed)) (ready-live (system t) live c a (v .isReady)))))
+        (test .sound j (result (system t) a s) (lawful .owned a (v .listed))
+        (ready-live (system t) live c a (v .isReady)))))
 
     rows-configured : (c : List ℕ) → List·Memᴰ c rows → Configured t c
     rows-configured c m = reach-configured (listed-reach (system t) (waits t) lawful K C c m)
 
     rows-nodup : Nodup rows
     unfolding configurations
-    rows-nodup = listing-nodup (sameRow eqb) (moves (system t) live) (startRow (system t)) (startRow (system t)) (row-refl eqb (lawful .same-refl)) C
+    rows-nodup =
+        listing-nodup (sameRow eqb) (moves (system t) live) (startRow (system t)) (startRow (system t))
+        (row-refl eqb (lawful .same-refl)) C
 
     rows-exceed : C < length rows → Exceed [] (Configured t) C
     rows-exceed l = record { some = rows; distinct = nodup-index [] rows-nodup; each = rows-configured; more = l }
@@ -139,8 +149,14 @@ module _ (t : List ℕ) (room : Room) (ok : check t ≡ 0) (long : tooShort t ro
       unfolding configurations
       rows-listed =
           record {
-            listed = record { distinct = nodup-index [] rows-nodup; just = λ c. (rows-configured c, configured-rows c) };
-            breadth = listing-breadth (sameRow eqb) (moves (system t) live) (startRow (system t)) (startRow (system t)) C most;
+            listed = record {
+              distinct = nodup-index [] rows-nodup;
+              just =
+                  λ c. (rows-configured c, configured-rows c);
+            };
+            breadth =
+                listing-breadth (sameRow eqb) (moves (system t) live) (startRow (system t))
+                (startRow (system t)) C most;
             liveRight = live-right;
           }
 
@@ -161,10 +177,13 @@ module _ (t : List ℕ) (room : Room) (ok : check t ≡ 0) (long : tooShort t ro
       record {
         full = (
           λ q. absurd (refused-gives (sym q ∙ e)),
-          λ x. absurd (⊎-elim (fit-not (s .fits)) (λ (y : AllSolvable × Exceed [] (Configured t) C). room-not (s .fits) (s .room) (y .1)) x),
+          λ x. absurd
+              (⊎-elim (fit-not (s .fits))
+              (λ (y : AllSolvable × Exceed [] (Configured t) C). room-not (s .fits) (s .room) (y .1)) x),
         );
         noOther = λ k q. absurd (refused-gives (sym q ∙ e));
-        unsolvable = λ i. (λ q. absurd (not-unsolvable i (gives-inj (sym e ∙ q))), λ x. absurd (x .2 (solvable i (x .1))));
+        unsolvable =
+            λ i. (λ q. absurd (not-unsolvable i (gives-inj (sym e ∙ q))), λ x. absurd (x .2 (solvable i (x .1))));
         listed = λ w q allOf. rows-listed (s .fits) (s .room);
         counted = λ n q. count n (gives-inj (sym e ∙ q));
       }
@@ -184,7 +203,8 @@ module _ (t : List ℕ) (room : Room) (ok : check t ≡ 0) (long : tooShort t ro
       }
 
   -- unsolvable
-  dead-search : (i : ℕ) → verdict t room ≡ gives (unsolvable i) → AllFit → i < members t → live i (Task.initial t) ≡ false
+  dead-search : (i : ℕ) → verdict t room ≡ gives (unsolvable i) → AllFit → i < members t
+      → live i (Task.initial t) ≡ false
       → ((j : ℕ) → j < i → live j (Task.initial t) ≡ true) → VerdictSearch t room
   dead-search i e fits h dead lower =
       let none : ¬ Solvable t i = λ p. true-not-false (solvable-live fits i h p) dead in
@@ -198,7 +218,8 @@ module _ (t : List ℕ) (room : Room) (ok : check t ≡ 0) (long : tooShort t ro
         unsolvable = λ j. (
           λ q.
               let same : i ≡ j = cc in
-              subst (λ (k : ℕ). (¬ CopiesExceed t K) × (k < members t) × (¬ Solvable t k) × ((m : ℕ) → m < k → Solvable t m)) same
+              subst (λ (k : ℕ). (¬ CopiesExceed t K) × (k < members t) × (¬ Solvable t k)
+              × ((m : ℕ) → m < k → Solvable t m)) same
               (fit-not fits, h, none, below),
           λ x.
               let ge : i ≤ j = ⊎-elim (λ (l : j < i). absurd (x .2 (below j l))) (λ l. l) (lt-or-ge j i) in
@@ -223,6 +244,9 @@ module _ (t : List ℕ) (room : Room) (ok : check t ≡ 0) (long : tooShort t ro
 
 pub verdict-searches : Searches
 verdict-searches t room ok long =
-    searches t room ok long (verdictIn (system t) (waits t) (localRows t (room .localTable)) (configurationRows t (room .configurationTable)))
+    searches t room ok long
+    (verdictIn (system t) (waits t) (localRows t (room .localTable))
+    (configurationRows t (room .configurationTable)))
     (verdict-is t room ok long)
-    (found (system t) (waits t) (lawful t room ok long) (localRows t (room .localTable)) (configurationRows t (room .configurationTable)))
+    (found (system t) (waits t) (lawful t room ok long) (localRows t (room .localTable))
+    (configurationRows t (room .configurationTable)))

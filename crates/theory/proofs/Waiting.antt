@@ -1,5 +1,5 @@
--- Source document 004: to mark more preconditions as waited for never makes a robust law not robust; the verdict stays robust, with the
--- same number of configurations. Assumes nothing.
+-- Source document 004: to mark more preconditions as waited for never makes a robust law not robust; the verdict stays
+-- robust, with the same number of configurations. Assumes nothing.
 use mathlib.Core.Path.{_≡_, ap, subst}
 use mathlib.Core.Bool.{true}
 use mathlib.Core.List.{[], List·Memᴰ, List·Memᴰ·not-nil}
@@ -25,22 +25,27 @@ module _
     (more : (a : ℕ) (s : S .State) → W a s ≡ true → W′ a s ≡ true)
     (K C : ℕ)
   where
-    pub robust-with-more : (count : ℕ) → verdictIn S W K C ≡ gives (robust count) → verdictIn S W′ K C ≡ gives (robust count)
+    pub robust-with-more : (count : ℕ) → verdictIn S W K C ≡ gives (robust count)
+        → verdictIn S W′ K C ≡ gives (robust count)
     robust-with-more count e = at (verdictIn S W K C) (found S W lawful K C) e
       where
         after : length (configurations S (lively S W lawful K) C) ≡ count → Searched S W lawful K C
-            → ((c : Row S) → List·Memᴰ c (configurations S (lively S W lawful K) C) → faults S W (lively S W lawful K) c ≡ [])
+            → ((c : Row S) → List·Memᴰ c (configurations S (lively S W lawful K) C)
+            → faults S W (lively S W lawful K) c ≡ [])
             → (y : Answer Finding) → Found S W′ lawful′ K C y → y ≡ gives (robust count)
         after n s none y (Found.copies-full {i = i} h l) = absurd (omega (arith, s .fits i h))
         after n s none y (Found.dead {i = i} fits h dead lower) = absurd (true-not-false (s .solvable i h) dead)
         after n s none y (Found.configurations-full fits live l) = absurd (omega (arith, s .room))
         after n s none y (Found.faulty {c = c} {f = f} s′ m shown) =
-            absurd (List·Memᴰ·not-nil (subst (List·Memᴰ f) (still-none S W W′ lawful′ more (lively S W lawful K) c (none c m)) shown))
+            absurd (List·Memᴰ·not-nil
+            (subst (List·Memᴰ f) (still-none S W W′ lawful′ more (lively S W lawful K) c (none c m)) shown))
         after n s none y (Found.faultless s′ none′) = ap (λ (c : ℕ). gives (robust c)) n
 
-        at : (x : Answer Finding) → Found S W lawful K C x → x ≡ gives (robust count) → verdictIn S W′ K C ≡ gives (robust count)
+        at : (x : Answer Finding) → Found S W lawful K C x → x ≡ gives (robust count)
+            → verdictIn S W′ K C ≡ gives (robust count)
         at x (Found.copies-full h l) e = absurd (refused-gives e)
         at x (Found.dead fits h dead lower) e = absurd (apart (cc))
         at x (Found.configurations-full fits live l) e = absurd (refused-gives e)
         at x (Found.faulty s m shown) e = absurd (apart (cc))
-        at x (Found.faultless s none) e = after (robust-inj (gives-inj e)) s none (verdictIn S W′ K C) (found S W′ lawful′ K C)
+        at x (Found.faultless s none) e =
+            after (robust-inj (gives-inj e)) s none (verdictIn S W′ K C) (found S W′ lawful′ K C)

@@ -32,7 +32,8 @@ returns-2 c =
     let f = c .before .before .before .before .before in
     let e = f .before .before in
     let a = e .before .before .before .before .args in
-    read-refused (a .text .now) (a .words .now) (a .out .now) (e .if1 .left) (f .read .result) (f .read .last .1 .0) (f .read .ensures) (c .before .s .given .0 .0) (c .before .s .given .1)
+    read-refused (a .text .now) (a .words .now) (a .out .now) (e .if1 .left) (f .read .result) (f .read .last .1 .0)
+    (f .read .ensures) (c .before .s .given .0 .0) (c .before .s .given .1)
 
 same-length-2 : tie.Need-same-length-2
 same-length-2 c = search needs
@@ -46,7 +47,9 @@ returns-3 c =
     let e = f .before .before in
     let a = e .before .before .before .before .args in
     let m = c .before .before .before .before .before .before .s2 in
-    read-given (a .text .now) (a .words .now) (a .out .now) (e .if1 .left) (f .read .result) (f .read .last .1 .0) (f .read .ensures) (m .given .0 .0) (c .before .before .put .last .0) (m .given .1) (c .before .before .put .ensures)
+    read-given (a .text .now) (a .words .now) (a .out .now) (e .if1 .left) (f .read .result) (f .read .last .1 .0)
+    (f .read .ensures) (m .given .0 .0) (c .before .before .put .last .0) (m .given .1)
+    (c .before .before .put .ensures)
 
 pub lawcheck-read-spec : {M : Type 1} → statement M
 lawcheck-read-spec =

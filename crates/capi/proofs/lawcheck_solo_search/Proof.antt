@@ -38,7 +38,9 @@ returns-2 c =
     let f = c .before .before .before .before .before .before .before in
     let e = f .before .before .before in
     let a = e .before .before .before .before .before .args in
-    search-refused (a .t .now) (a .table .now) (a .marks .now) (a .out .now) (a .member) (e .if1 .left) (f .solo-search .result) (f .solo-search .last .1 .1 .0) (f .solo-search .last .1 .1 .1 .0) (f .solo-search .ensures) (c .before .s .given .0 .0) (c .before .s .given .1)
+    search-refused (a .t .now) (a .table .now) (a .marks .now) (a .out .now) (a .member) (e .if1 .left)
+    (f .solo-search .result) (f .solo-search .last .1 .1 .0) (f .solo-search .last .1 .1 .1 .0)
+    (f .solo-search .ensures) (c .before .s .given .0 .0) (c .before .s .given .1)
 
 same-length-3 : tie.Need-same-length-3
 same-length-3 c = search needs
@@ -55,7 +57,10 @@ returns-3 c =
     let e = f .before .before .before in
     let a = e .before .before .before .before .before .args in
     let m = c .before .before .before .before .before .before .s2 in
-    search-given (a .t .now) (a .table .now) (a .marks .now) (a .out .now) (a .member) (e .if1 .left) (f .solo-search .result) (f .solo-search .last .1 .1 .0) (f .solo-search .last .1 .1 .1 .0) (f .solo-search .ensures) (m .given .0 .0) (m .given .0 .1 .0) (c .before .before .put .last .0) (m .given .1) (c .before .before .put .ensures)
+    search-given (a .t .now) (a .table .now) (a .marks .now) (a .out .now) (a .member) (e .if1 .left)
+    (f .solo-search .result) (f .solo-search .last .1 .1 .0) (f .solo-search .last .1 .1 .1 .0)
+    (f .solo-search .ensures) (m .given .0 .0) (m .given .0 .1 .0) (c .before .before .put .last .0) (m .given .1)
+    (c .before .before .put .ensures)
 
 pub lawcheck-solo-search-spec : {M : Type 1} → statement M
 lawcheck-solo-search-spec =

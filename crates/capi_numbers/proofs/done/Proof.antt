@@ -32,8 +32,11 @@ returns : tie.Need-returns
 returns c =
     let p = c .before .before .before .before .before .before .before in
     let w = p .before .before .before in
-    let a = w .before .before .before .args in
-    (ap (call 0) (c .before .before .put2 .ensures), p .put .ensures ∙ ap (λ (x : List ℕ). front x (a .words .now)) (w .words-of .ensures))
+    let a = w .before .before .before .args in (
+      ap (call 0) (c .before .before .put2 .ensures),
+      p .put .ensures
+          ∙ ap (λ (x : List ℕ). front x (a .words .now)) (w .words-of .ensures),
+    )
 
 pub done-spec : {M : Type 1} → statement M
 done-spec =

@@ -1,4 +1,5 @@
--- `lawcheck::read_all` meets its contract. The loop ends because each turn but the last reads some bytes. Assumes nothing.
+-- `lawcheck::read_all` meets its contract. The loop ends because each turn but the last reads some bytes. Assumes
+-- nothing.
 use mathlib.Core.Path.{_≡_}
 use Prim.Native.Nat.{_-_, _≤_}
 use lib.ListN.{length}

@@ -1,4 +1,5 @@
--- `mask::after` meets its contract: the code is the definition, and what `s` and `del` have in common is within `s`. Assumes nothing.
+-- `mask::after` meets its contract: the code is the definition, and what `s` and `del` have in common is within `s`.
+-- Assumes nothing.
 use borrow.Author.Needs.{needs}
 use lib.Bits.{and-le-l}
 use Rattle.semantics.specs.Mask.{after}

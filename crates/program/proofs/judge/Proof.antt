@@ -14,12 +14,14 @@ use Rattle.program.proofs.judge.Tie as tie
 abbrev before-of : tie.Start → Slices
 before-of s =
     let a = s .args in
-    lentOf (a .local .now) (a .marks .now) (a .confs .now) (a .trail .now) (a .plans .now) (a .ends .now) (a .picks .now)
+    lentOf (a .local .now) (a .marks .now) (a .confs .now) (a .trail .now) (a .plans .now) (a .ends .now)
+    (a .picks .now)
 
 abbrev after-of : tie.After-verdict → Slices
 after-of v =
     let l = v .verdict .last in
-    lentOf (l .1 .0) (l .1 .1 .0) (l .1 .1 .1 .0) (l .1 .1 .1 .1 .0) (l .1 .1 .1 .1 .1 .0) (l .1 .1 .1 .1 .1 .1 .0) (l .1 .1 .1 .1 .1 .1 .1 .0)
+    lentOf (l .1 .0) (l .1 .1 .0) (l .1 .1 .1 .0) (l .1 .1 .1 .1 .0) (l .1 .1 .1 .1 .1 .0) (l .1 .1 .1 .1 .1 .1 .0)
+    (l .1 .1 .1 .1 .1 .1 .1 .0)
 
 members-requires : tie.Need-members-requires
 members-requires c κs = search needs
@@ -35,8 +37,10 @@ put-file-requires c κs =
     let t = s .args .t .now in
     let h = holds t (before-of s) (after-of v) (answerOf (v .verdict .result)) (v .verdict .ensures .0) in
     let k = v .verdict .kept in
-    let f = file-fits t (before-of s) (after-of v) (answerOf (v .verdict .result)) (s .pre .0) (s .pre .1 .0) (k .1 .1 .1 .1 .1 .0) (k .1 .1 .1 .1 .1 .1 .1 .0) in (
-      subst (λ (n : ℕ). Holds (answerOf (v .verdict .result)) n (after-of v .plans) (after-of v .ends) (after-of v .picks)) (sym (m .members .ensures)) h,
+    let f = file-fits t (before-of s) (after-of v) (answerOf (v .verdict .result)) (s .pre .0) (s .pre .1 .0)
+    (k .1 .1 .1 .1 .1 .0) (k .1 .1 .1 .1 .1 .1 .1 .0) in (
+      subst (λ (n : ℕ). Holds (answerOf (v .verdict .result)) n (after-of v .plans) (after-of v .ends)
+          (after-of v .picks)) (sym (m .members .ensures)) h,
       omega (arith, m .members .ensures, f, s .pre .1 .1),
     )
 

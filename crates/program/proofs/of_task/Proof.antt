@@ -9,10 +9,13 @@ use Rattle.program.proofs.of_task.Statement.{statement}
 use Rattle.program.proofs.of_task.Tie as tie
 
 some : (m : tie.After-members) → 1 ≤ m .members .result
-some m = let s = m .before .before .before in omega (arith, m .members .ensures, accepted (s .args .t .now) (s .pre .0) .some-members)
+some m = let s =
+    m .before .before .before in
+    omega (arith, m .members .ensures, accepted (s .args .t .now) (s .pre .0) .some-members)
 
 few : (m : tie.After-members) → m .members .result ≤ 8
-few m = let s = m .before .before .before in omega (arith, m .members .ensures, accepted (s .args .t .now) (s .pre .0) .few-members)
+few m = let s =
+    m .before .before .before in omega (arith, m .members .ensures, accepted (s .args .t .now) (s .pre .0) .few-members)
 
 rows : (m : tie.After-members) → m .members .result * (localWords / m .members .result) ≤ localWords
 rows m = rows-most (m .members .result)
@@ -42,7 +45,8 @@ array-borrow-prefix-marks : tie.Need-array-borrow-prefix-marks
 array-borrow-prefix-marks c = let m = c .before in omega (arith, rows m)
 
 slice-aggregate-judge-2 : tie.Need-slice-aggregate-judge-2
-slice-aggregate-judge-2 c = let m = c .before .before in front-length (m .members .result * (localWords / m .members .result)) 4096 (rows m)
+slice-aggregate-judge-2 c = let m =
+    c .before .before in front-length (m .members .result * (localWords / m .members .result)) 4096 (rows m)
 
 slice-aggregate-judge-3 : tie.Need-slice-aggregate-judge-3
 slice-aggregate-judge-3 c = search needs
@@ -54,7 +58,9 @@ array-borrow-prefix-trail : tie.Need-array-borrow-prefix-trail
 array-borrow-prefix-trail c = let m = c .before .before .before in omega (arith, most m)
 
 slice-aggregate-judge-4 : tie.Need-slice-aggregate-judge-4
-slice-aggregate-judge-4 c = let m = c .before .before .before .before in front-length (2 * (configurationWords / (m .members .result + 1))) 8192 (omega (arith, most m))
+slice-aggregate-judge-4 c = let m =
+    c .before .before .before .before in
+    front-length (2 * (configurationWords / (m .members .result + 1))) 8192 (omega (arith, most m))
 
 add-plans : tie.Need-add-plans
 add-plans c = let m = c .before .before .before .before in omega (arith, rows m, most m)
@@ -63,19 +69,26 @@ array-borrow-prefix-plans : tie.Need-array-borrow-prefix-plans
 array-borrow-prefix-plans c = let m = c .before .before .before .before in omega (arith, rows m, most m)
 
 slice-aggregate-judge-5 : tie.Need-slice-aggregate-judge-5
-slice-aggregate-judge-5 c = let m = c .before .before .before .before .before in front-length (configurationWords / (m .members .result + 1) + m .members .result * (localWords / m .members .result)) 8192 (omega (arith, most m, rows m))
+slice-aggregate-judge-5 c = let m =
+    c .before .before .before .before .before in
+    front-length
+    (configurationWords / (m .members .result + 1) + m .members .result * (localWords / m .members .result)) 8192
+    (omega (arith, most m, rows m))
 
 array-borrow-prefix-ends : tie.Need-array-borrow-prefix-ends
 array-borrow-prefix-ends c = let m = c .before .before .before .before .before in omega (arith, few m)
 
 slice-aggregate-judge-6 : tie.Need-slice-aggregate-judge-6
-slice-aggregate-judge-6 c = let m = c .before .before .before .before .before .before in front-length (m .members .result) 8 (few m)
+slice-aggregate-judge-6 c = let m =
+    c .before .before .before .before .before .before in front-length (m .members .result) 8 (few m)
 
 array-borrow-prefix-picks : tie.Need-array-borrow-prefix-picks
 array-borrow-prefix-picks c = let m = c .before .before .before .before .before .before in omega (arith, most m)
 
 slice-aggregate-judge-7 : tie.Need-slice-aggregate-judge-7
-slice-aggregate-judge-7 c = let m = c .before .before .before .before .before .before .before in front-length (configurationWords / (m .members .result + 1)) 4096 (most m)
+slice-aggregate-judge-7 c = let m =
+    c .before .before .before .before .before .before .before in
+    front-length (configurationWords / (m .members .result + 1)) 4096 (most m)
 
 judge-requires : tie.Need-judge-requires
 judge-requires c κs =

@@ -15,11 +15,15 @@ use Rattle.program.proofs.of_text.Tie as tie
 long : (s : tie.Start) → length (s .args .words .now) ≡ mostWords
 long s = ap length (s .pre .0) ∙ length-replicate {A = ℕ} mostWords 0
 
-words : (c : tie.After-n) → Words (c .before .before .before .before .before .before .before .before .before .args .text .now) (c .before .before .before .before .before .before .before .before .before .args .words .now) (c .before .before .before .before .read .last .1 .0) (c .n .given .0 .0)
+words : (c : tie.After-n)
+    → Words (c .before .before .before .before .before .before .before .before .before .args .text .now)
+    (c .before .before .before .before .before .before .before .before .before .args .words .now)
+    (c .before .before .before .before .read .last .1 .0) (c .n .given .0 .0)
 words c =
     let d = c .before .before .before .before in
     let s = d .before .before .before .before .before in
-    words-of (s .args .text .now) (s .args .words .now) (d .read .last .1 .0) (omega (arith, long s)) (d .read .result) (d .read .ensures) (c .n .given .0 .0) (c .n .given .1)
+    words-of (s .args .text .now) (s .args .words .now) (d .read .last .1 .0) (omega (arith, long s)) (d .read .result)
+    (d .read .ensures) (c .n .given .0 .0) (c .n .given .1)
 
 read-requires : tie.Need-read-requires
 read-requires c κs = search needs
@@ -28,16 +32,28 @@ enum-known-n : tie.Need-enum-known-n
 enum-known-n c = search needs
 
 mul-of-task : tie.Need-mul-of-task
-mul-of-task c = omega (arith, words (c .before) .room, c .before .before .before .before .before .read .kept .1 .0, long (c .before .before .before .before .before .before .before .before .before .before))
+mul-of-task c =
+    omega (
+      arith,
+      words (c .before) .room,
+      c .before .before .before .before .before .read .kept .1 .0,
+      long (c .before .before .before .before .before .before .before .before .before .before),
+    )
 
 slice-reshare-prefix-of-task : tie.Need-slice-reshare-prefix-of-task
 slice-reshare-prefix-of-task c = words (c .before) .room
 
 slice-aggregate-of-task : tie.Need-slice-aggregate-of-task
-slice-aggregate-of-task c = sym (length-take-le (rowWidth * c .before .before .n .given .0 .0) (c .before .before .before .before .before .before .read .last .1 .0) (words (c .before .before) .room))
+slice-aggregate-of-task c =
+    sym (length-take-le (rowWidth * c .before .before .n .given .0 .0)
+    (c .before .before .before .before .before .before .read .last .1 .0) (words (c .before .before) .room))
 
 of-task-requires : tie.Need-of-task-requires
-of-task-requires c κs = let w = words (c .before .before .before) in (ap check (w .words-read) ∙ w .task, c .before .before .before .before .before .before .before .before .before .before .before .before .pre .1)
+of-task-requires c κs = let w =
+    words (c .before .before .before) in (
+      ap check (w .words-read) ∙ w .task,
+      c .before .before .before .before .before .before .before .before .before .before .before .before .pre .1,
+    )
 
 enum-known-k : tie.Need-enum-known-k
 enum-known-k c = search needs

@@ -84,7 +84,9 @@ put-number-put-number-requires : (t : ℕ) → put-number-lts.Need-put-number-re
 put-number-put-number-requires t c κs =
     let s = c .before .before .before in (
       omega (arith, s .pre .0),
-      room-first (digits (s .args .v / 10)) ((48 + s .args .v % 10) ∷ []) (subst (λ (l : List ℕ). Room (s .args .out .now) (s .args .at) l) (digits-more (s .args .v) (omega arith)) (s .pre .1)),
+      room-first (digits (s .args .v / 10)) ((48 + s .args .v % 10) ∷ [])
+          (subst (λ (l : List ℕ). Room (s .args .out .now) (s .args .at) l) (digits-more (s .args .v) (omega arith))
+          (s .pre .1)),
     )
 
 put-number-cast-put-byte-2 : (t : ℕ) → put-number-lts.Need-cast-put-byte-2 (
@@ -112,7 +114,9 @@ put-number-put-byte-requires-2 : (t : ℕ) → put-number-lts.Need-put-byte-requ
 put-number-put-byte-requires-2 t c κs =
     let f = c .before .before .before in
     let s = f .before .before .before .before in
-    room-then (subst (λ (l : List ℕ). Room (s .args .out .now) (s .args .at) l) (digits-more (s .args .v) (omega arith)) (s .pre .1)) (f .put-number .ensures) (f .put-number .kept .0)
+    room-then
+    (subst (λ (l : List ℕ). Room (s .args .out .now) (s .args .at) l) (digits-more (s .args .v) (omega arith))
+    (s .pre .1)) (f .put-number .ensures) (f .put-number .kept .0)
 
 put-number-same-length-2 : (t : ℕ) → put-number-lts.Need-same-length-2 (
   put-byte-reads.Asked,

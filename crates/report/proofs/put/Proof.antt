@@ -38,7 +38,8 @@ loop-less c = search needs
 loop-again : tie.Need-loop-again Inv-loop μ-loop
 loop-again c =
     let f = c .before .before in
-    stage-onward (f .before .before .before .before .loop .inv) _ refl (omega arith) _ _ (f .put-byte .ensures) (f .put-byte .kept .0)
+    stage-onward (f .before .before .before .before .loop .inv) _ refl (omega arith) _ _ (f .put-byte .ensures)
+    (f .put-byte .kept .0)
 
 same-length : tie.Need-same-length Inv-loop μ-loop
 same-length c = c .before .loop .inv .kept

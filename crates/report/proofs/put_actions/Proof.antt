@@ -28,7 +28,8 @@ wide-requires : tie.Need-wide-requires Inv-loop μ-loop
 wide-requires c κs = search needs
 
 put-line-requires : tie.Need-put-line-requires Inv-loop μ-loop
-put-line-requires c κs = stage-room (c .before .before .before .before .loop .inv) (c .wide .result) (c .wide .ensures) (omega arith)
+put-line-requires c κs =
+    stage-room (c .before .before .before .before .loop .inv) (c .wide .result) (c .wide .ensures) (omega arith)
 
 add-i : tie.Need-add-i Inv-loop μ-loop
 add-i c = search needs
@@ -40,7 +41,8 @@ loop-again : tie.Need-loop-again Inv-loop μ-loop
 loop-again c =
     let f = c .before .before in
     let w = f .before in
-    stage-onward (w .before .before .before .before .loop .inv) (w .wide .result) (w .wide .ensures) (omega arith) _ _ (f .put-line .ensures) (f .put-line .kept .0)
+    stage-onward (w .before .before .before .before .loop .inv) (w .wide .result) (w .wide .ensures) (omega arith) _ _
+    (f .put-line .ensures) (f .put-line .kept .0)
 
 same-length : tie.Need-same-length Inv-loop μ-loop
 same-length c = c .before .loop .inv .kept

@@ -11,8 +11,10 @@ put-plans-requires : tie.Need-put-plans-requires
 unfolding word numbersFrom
 put-plans-requires c κs =
     let s = c .before .before .before .before .before in
-    let a = s .args in
-    (s .pre .0, room-first (plansLines (a .n) (a .plans .now) (a .ends .now)) (lines (word "pick") (a .picks .now)) (s .pre .1))
+    let a = s .args in (
+      s .pre .0,
+      room-first (plansLines (a .n) (a .plans .now) (a .ends .now)) (lines (word "pick") (a .picks .now)) (s .pre .1),
+    )
 
 slice-aggregate-put-picks : tie.Need-slice-aggregate-put-picks
 slice-aggregate-put-picks c = search needs
@@ -21,7 +23,8 @@ put-picks-requires : tie.Need-put-picks-requires
 unfolding word numbersFrom
 put-picks-requires c κs =
     let f = c .before .before .before .before in
-    room-then (f .before .before .before .before .before .before .pre .1) (f .put-plans .ensures) (f .put-plans .kept .0)
+    room-then (f .before .before .before .before .before .before .pre .1) (f .put-plans .ensures)
+    (f .put-plans .kept .0)
 
 same-length : tie.Need-same-length
 same-length c = search needs

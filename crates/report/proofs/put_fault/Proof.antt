@@ -1,5 +1,6 @@
 -- `report::put_fault` meets its contract. Assumes nothing.
-use Rattle.report.proofs.Faults.{room-collision, room-deadlock, room-missed, line-collision, line-deadlock, line-missed}
+use Rattle.report.proofs.Faults.{room-collision, room-deadlock, room-missed, line-collision, line-deadlock}
+use Rattle.report.proofs.Faults.{line-missed}
 use Rattle.semantics.specs.Base.{numbersFrom}
 use Rattle.report.specs.File.{word}
 use borrow.Author.Needs.{needs}

@@ -23,7 +23,8 @@ put-body-requires c κs =
       s .pre .0,
       omega (
         arith,
-        conflict-most (answerOf (a .answer)) (a .n) (a .plans .now) (a .ends .now) (a .picks .now) (s .pre .0) (omega (arith, s .fits .n)) (λ i. omega (arith, plans i)) (λ i. omega (arith, picks i)),
+        conflict-most (answerOf (a .answer)) (a .n) (a .plans .now) (a .ends .now) (a .picks .now) (s .pre .0)
+            (omega (arith, s .fits .n)) (λ i. omega (arith, plans i)) (λ i. omega (arith, picks i)),
       ),
     )
 

@@ -10,16 +10,21 @@ put-requires : tie.Need-put-requires
 put-requires c κs = let a = c .before .before .before .args in omega (arith, line-length (a .word .now) (a .v))
 
 put-byte-requires : tie.Need-put-byte-requires
-put-byte-requires c κs = let a = c .before .before .before .before .before .before .before .args in omega (arith, line-length (a .word .now) (a .v))
+put-byte-requires c κs = let a =
+    c .before .before .before .before .before .before .before .args in omega (arith, line-length (a .word .now) (a .v))
 
 put-number-requires : tie.Need-put-number-requires
-put-number-requires c κs = let a = c .before .before .before .before .before .before .before .before .before .before .before .args in omega (arith, line-length (a .word .now) (a .v))
+put-number-requires c κs = let a =
+    c .before .before .before .before .before .before .before .before .before .before .before .args in
+    omega (arith, line-length (a .word .now) (a .v))
 
 put-byte-requires-2 : tie.Need-put-byte-requires-2
-put-byte-requires-2 c κs = let a = c .before .before .before .before .before .before .before .before .before .before .before .before .before .before .before .args in omega (arith, line-length (a .word .now) (a .v))
+put-byte-requires-2 c κs = let a =
+    c .before .before .before .before .before .before .before .before .before .before .before .before .before .before .before .args in omega (arith, line-length (a .word .now) (a .v))
 
 put-byte-requires-3 : tie.Need-put-byte-requires-3
-put-byte-requires-3 c κs = let a = c .before .before .before .before .before .before .before .before .before .before .before .before .before .before .before .before .before .before .before .args in omega (arith, line-length (a .word .now) (a .v))
+put-byte-requires-3 c κs = let a =
+    c .before .before .before .before .before .before .before .before .before .before .before .before .before .before .before .before .before .before .before .args in omega (arith, line-length (a .word .now) (a .v))
 
 same-length : tie.Need-same-length
 same-length c = search needs

@@ -31,7 +31,8 @@ unfolding word numbersFrom
 put-actions-requires c κs =
     let s = c .before .before .before .before .before in
     let a = s .args in
-    subst (λ (l : List ℕ). Room (a .out .now) (a .at) (lines (word "action") l)) (sym (part-slice (a .from) (a .to) (a .plans .now) (s .pre .0))) (s .pre .1 .1)
+    subst (λ (l : List ℕ). Room (a .out .now) (a .at) (lines (word "action") l))
+    (sym (part-slice (a .from) (a .to) (a .plans .now) (s .pre .0))) (s .pre .1 .1)
 
 same-length : tie.Need-same-length
 same-length c = search needs

@@ -21,7 +21,8 @@ unfolding word numbersFrom
 put-line-requires c κs =
     let s = c .before .before .before .before .before in
     let a = s .args in
-    room-first (line (word "plan") (a .i)) (lines (word "action") (planOf (a .plans .now) (a .ends .now) (a .i))) (s .pre .1 .1)
+    room-first (line (word "plan") (a .i)) (lines (word "action") (planOf (a .plans .now) (a .ends .now) (a .i)))
+    (s .pre .1 .1)
 
 beginning-requires : tie.Need-beginning-requires
 beginning-requires c κs = search needs

@@ -23,8 +23,14 @@ loop-holds c = search stage-begin
 put-plan-requires : tie.Need-put-plan-requires Inv-loop μ-loop
 put-plan-requires c κs =
     let l = c .before .before in
-    let a = c .before .before .before .before .before .before .args in
-    (omega arith, (c .before .before .before .before .before .before .pre .0, stage-room (l .loop .inv) (l .loop .i) (sym (upTo-at (a .n) (l .loop .i) (omega arith))) (omega (arith, upTo-length (a .n)))))
+    let a = c .before .before .before .before .before .before .args in (
+      omega arith,
+      (
+        c .before .before .before .before .before .before .pre .0,
+        stage-room (l .loop .inv) (l .loop .i) (sym (upTo-at (a .n) (l .loop .i) (omega arith)))
+            (omega (arith, upTo-length (a .n))),
+      ),
+    )
 
 add-i : tie.Need-add-i Inv-loop μ-loop
 add-i c = omega arith
@@ -37,14 +43,16 @@ loop-again c =
     let f = c .before .before in
     let l = f .before .before .before in
     let n = l .before .before .before .before .args .n in
-    stage-onward (l .loop .inv) (l .loop .i) (sym (upTo-at n (l .loop .i) (omega arith))) (omega (arith, upTo-length n)) _ _ (f .put-plan .ensures) (f .put-plan .kept .0)
+    stage-onward (l .loop .inv) (l .loop .i) (sym (upTo-at n (l .loop .i) (omega arith)))
+    (omega (arith, upTo-length n)) _ _ (f .put-plan .ensures) (f .put-plan .kept .0)
 
 same-length : tie.Need-same-length Inv-loop μ-loop
 same-length c = c .before .loop .inv .kept
 
 returns : tie.Need-returns Inv-loop μ-loop
 unfolding plansLines
-returns c = stage-end (c .before .loop .inv) (omega (arith, upTo-length (c .before .before .before .before .before .args .n)))
+returns c =
+    stage-end (c .before .loop .inv) (omega (arith, upTo-length (c .before .before .before .before .before .args .n)))
 
 pub put-plans-spec : {M : Type 1} → statement M
 put-plans-spec =

@@ -30,11 +30,13 @@ abbrev pub Holds : Answer (Verdict Failing) → ℕ → List ℕ → List ℕ �
 Holds (refused k) n plans ends picks = Unit {0}
 Holds (gives (unsolvable i)) n plans ends picks = Unit {0}
 Holds (gives (robust c)) n plans ends picks = Unit {0}
-Holds (gives (notRobust f)) n plans ends picks = Inside n plans ends × (conflictPicks (f .fault) (f .picked) ≤ length picks)
+Holds (gives (notRobust f)) n plans ends picks =
+    Inside n plans ends × (conflictPicks (f .fault) (f .picked) ≤ length picks)
 
 -- the lines of the conflict, if the answer comes with one
 abbrev pub conflictOf : Answer (Verdict Failing) → ℕ → List ℕ → List ℕ → List ℕ → List ℕ
 conflictOf (refused k) n plans ends picks = []
 conflictOf (gives (unsolvable i)) n plans ends picks = []
 conflictOf (gives (robust c)) n plans ends picks = []
-conflictOf (gives (notRobust f)) n plans ends picks = conflictLines n plans ends (take (conflictPicks (f .fault) (f .picked)) picks)
+conflictOf (gives (notRobust f)) n plans ends picks =
+    conflictLines n plans ends (take (conflictPicks (f .fault) (f .picked)) picks)

@@ -1,4 +1,5 @@
--- `run_pick::missed` meets its contract: the lowest member whose goal is missing is the lowest from j on. Assumes nothing.
+-- `run_pick::missed` meets its contract: the lowest member whose goal is missing is the lowest from j on. Assumes
+-- nothing.
 use borrow.Author.Needs.{needs}
 use Prim.Native.Nat.{_-_}
 use Rattle.semantics.specs.Task.{members}

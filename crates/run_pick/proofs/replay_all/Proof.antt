@@ -1,4 +1,5 @@
--- `run_pick::replay_all` meets its contract: what all picks come to is what those from i on come to from the run there. Assumes nothing.
+-- `run_pick::replay_all` meets its contract: what all picks come to is what those from i on come to from the run there.
+-- Assumes nothing.
 use borrow.Author.Needs.{needs}
 use Prim.Native.Nat.{_-_}
 use native.Mathlib.Omega.{arith}

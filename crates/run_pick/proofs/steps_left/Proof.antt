@@ -40,7 +40,9 @@ loop-again : tie.Need-loop-again Inv-loop μ-loop
 loop-again c =
     let r = c .before .before .before .before in
     let a = r .before .before .before .before .before .args in
-    left-onward (a .t .now) (a .plans .now) (a .ends .now) (a .run) _ (r .loop .j) (r .before .members .ensures) (r .loop .inv) (c .before .before .before .loop-test .taken) _ _ (c .before .before .place .ensures) (c .before .steps .ensures) (c .if1 .left)
+    left-onward (a .t .now) (a .plans .now) (a .ends .now) (a .run) _ (r .loop .j) (r .before .members .ensures)
+    (r .loop .inv) (c .before .before .before .loop-test .taken) _ _ (c .before .before .place .ensures)
+    (c .before .steps .ensures) (c .if1 .left)
 
 returns-2 : tie.Need-returns-2 Inv-loop μ-loop
 returns-2 c = search left-none

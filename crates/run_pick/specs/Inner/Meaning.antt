@@ -5,7 +5,8 @@ use Prim.Native.Nat.{ℕ}
 use Rattle.semantics.specs.Base.{Answer}
 use Rattle.semantics.specs.Task.{members}
 use Rattle.semantics.specs.System.{system, waits}
-use Rattle.semantics.specs.Run.{Run, Replied, Outcome, Replay, plansOf, pick, pickable, stepsLeft, outcome, replayOn, replay}
+use Rattle.semantics.specs.Run.{Run, Replied, Outcome, Replay, plansOf, pick, pickable, stepsLeft, outcome, replayOn}
+use Rattle.semantics.specs.Run.{replay}
 
 module _ (t plans ends : List ℕ) where
   abbrev pub plansIn : List (List ℕ)

@@ -1,4 +1,5 @@
--- `run_plans::action` meets its contract: checked plans have fitting ends, and their entries are actions. Assumes nothing.
+-- `run_plans::action` meets its contract: checked plans have fitting ends, and their entries are actions. Assumes
+-- nothing.
 use mathlib.Core.Path.{sym, ap, subst, _∙_}
 use Prim.Native.Nat.{ℕ, _+_, _<_}
 use native.Mathlib.Omega.{arith}
@@ -9,14 +10,23 @@ use Rattle.run_plans.proofs.action.Statement.{statement}
 use Rattle.run_plans.proofs.action.Tie as tie
 
 its-part : (c : tie.After-shared-slice-known3)
-    → Part (members (c .before .before .before .args .t .now)) (c .before .before .before .args .plans .now) (c .before .before .before .args .ends .now) (c .before .before .before .args .j)
+    → Part (members (c .before .before .before .args .t .now)) (c .before .before .before .args .plans .now)
+    (c .before .before .before .args .ends .now) (c .before .before .before .args .j)
 its-part c = let s = c .before .before .before in checked-part _ _ _ (s .args .j) (s .pre .0) (s .pre .1 .0)
 
-inside : (c : tie.After-beginning) → c .beginning .result + c .before .before .before .before .args .k < length (c .before .before .before .before .args .plans .now)
+inside : (c : tie.After-beginning)
+    → c .beginning .result + c .before .before .before .before .args .k < length
+    (c .before .before .before .before .args .plans .now)
 inside c =
     let s = c .before .before .before .before in
     let p = its-part (c .before) in
-    omega (arith, p .begins, p .within, plan-length (s .args .plans .now) (s .args .ends .now) (s .args .j) p, s .pre .1 .1)
+    omega (
+      arith,
+      p .begins,
+      p .within,
+      plan-length (s .args .plans .now) (s .args .ends .now) (s .args .j) p,
+      s .pre .1 .1,
+    )
 
 beginning-requires : tie.Need-beginning-requires
 beginning-requires c κs = omega (arith, its-part c .many)
@@ -31,7 +41,11 @@ shared-slice-read-result : tie.Need-shared-slice-read-result
 shared-slice-read-result c = omega (arith, inside (c .before))
 
 cast-result : tie.Need-cast-result
-cast-result c = omega (arith, c .shared-slice-known4 .given (c .before .beginning .result + c .before .before .before .before .before .args .k))
+cast-result c =
+    omega (
+      arith,
+      c .shared-slice-known4 .given (c .before .beginning .result + c .before .before .before .before .before .args .k),
+    )
 
 returns : tie.Need-returns
 returns c =
@@ -39,8 +53,12 @@ returns c =
     let a = s .args in
     let same =
     sym (plan-at (a .plans .now) (a .ends .now) (a .j) (its-part (c .before .before)) (a .k) (s .pre .1 .1)
-    ∙ ap (λ (b : ℕ). getD (a .plans .now) (b + a .k) 0) (sym (c .before .beginning .ensures))) in
-    (same, subst (λ (x : ℕ). x < actions (a .t .now)) (sym same) (checked-step (a .t .now) (a .plans .now) (a .ends .now) (a .j) (s .pre .0) (s .pre .1 .0) (a .k) (s .pre .1 .1)))
+    ∙ ap (λ (b : ℕ). getD (a .plans .now) (b + a .k) 0) (sym (c .before .beginning .ensures))) in (
+      same,
+      subst (λ (x : ℕ). x < actions (a .t .now)) (sym same)
+          (checked-step (a .t .now) (a .plans .now) (a .ends .now) (a .j) (s .pre .0) (s .pre .1 .0) (a .k)
+          (s .pre .1 .1)),
+    )
 
 pub action-spec : {M : Type 1} → statement M
 action-spec =

@@ -36,7 +36,9 @@ loop-less : tie.Need-loop-less Inv-loop μ-loop
 loop-less c = search needs
 
 loop-again : tie.Need-loop-again Inv-loop μ-loop
-loop-again c = rises-there _ _ _ (c .before .before .before .before .loop .inv) (c .before .before .before .loop-test .taken) _ (c .before .beginning .ensures) (c .if2 .left)
+loop-again c =
+    rises-there _ _ _ (c .before .before .before .before .loop .inv) (c .before .before .before .loop-test .taken) _
+    (c .before .beginning .ensures) (c .if2 .left)
 
 beginning-requires-2 : tie.Need-beginning-requires-2 Inv-loop μ-loop
 beginning-requires-2 c κs = search needs

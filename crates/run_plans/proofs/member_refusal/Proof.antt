@@ -7,7 +7,8 @@ use Rattle.run_plans.proofs.member_refusal.Statement.{statement}
 use Rattle.run_plans.proofs.member_refusal.Tie as tie
 
 its-part : (c : tie.After-shared-slice-known3)
-    → Part (members (c .before .before .before .args .t .now)) (c .before .before .before .args .plans .now) (c .before .before .before .args .ends .now) (c .before .before .before .args .j)
+    → Part (members (c .before .before .before .args .t .now)) (c .before .before .before .args .plans .now)
+    (c .before .before .before .args .ends .now) (c .before .before .before .args .j)
 its-part c = let s = c .before .before .before in part _ _ _ (s .pre .1 .0) (s .args .j) (s .pre .1 .1)
 
 beginning-requires : tie.Need-beginning-requires
@@ -39,7 +40,8 @@ returns c =
     let a = c .before .before .before .before .before .before .before .args in
     let b = c .before .before .before .beginning in
     let p = its-part (c .before .before .before .before) in
-    part-refusal (a .t .now) (a .plans .now) (a .ends .now) (a .j) (c .plan-refusal .result) (b .result) (b .ensures) (omega (arith, p .begins, b .ensures)) (c .plan-refusal .ensures)
+    part-refusal (a .t .now) (a .plans .now) (a .ends .now) (a .j) (c .plan-refusal .result) (b .result) (b .ensures)
+    (omega (arith, p .begins, b .ensures)) (c .plan-refusal .ensures)
 
 pub member-refusal-spec : {M : Type 1} → statement M
 member-refusal-spec =

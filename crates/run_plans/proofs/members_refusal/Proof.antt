@@ -1,4 +1,5 @@
--- `run_plans::members_refusal` meets its contract: the first refusal of all plans is that of the plans from j on. Assumes nothing.
+-- `run_plans::members_refusal` meets its contract: the first refusal of all plans is that of the plans from j on.
+-- Assumes nothing.
 use borrow.Author.Needs.{needs}
 use Prim.Native.Nat.{_-_}
 use Rattle.semantics.specs.Base.{upTo}

@@ -6,7 +6,8 @@ use Rattle.run_plans.proofs.steps.Statement.{statement}
 use Rattle.run_plans.proofs.steps.Tie as tie
 
 its-part : (c : tie.After-shared-slice-known3)
-    → Part (members (c .before .before .before .args .t .now)) (c .before .before .before .args .plans .now) (c .before .before .before .args .ends .now) (c .before .before .before .args .j)
+    → Part (members (c .before .before .before .args .t .now)) (c .before .before .before .args .plans .now)
+    (c .before .before .before .args .ends .now) (c .before .before .before .args .j)
 its-part c = let s = c .before .before .before in checked-part _ _ _ (s .args .j) (s .pre .0) (s .pre .1)
 
 beginning-requires : tie.Need-beginning-requires

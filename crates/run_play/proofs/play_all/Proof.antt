@@ -8,7 +8,8 @@ use Rattle.run_play.proofs.play_all.Statement.{statement}
 use Rattle.run_play.proofs.play_all.Tie as tie
 
 abbrev Inv-loop : tie.InvT-loop
-Inv-loop t plans ends picks answers₀ current₀ k₀ answers current k = Playing t plans ends picks answers₀ current₀ current answers k
+Inv-loop t plans ends picks answers₀ current₀ k₀ answers current k =
+    Playing t plans ends picks answers₀ current₀ current answers k
 
 abbrev μ-loop : tie.MeasureT-loop
 μ-loop t plans ends picks answers₀ current₀ k₀ answers current k = length picks - k

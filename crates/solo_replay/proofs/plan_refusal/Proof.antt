@@ -1,4 +1,5 @@
--- `solo_replay::plan_refusal` meets its contract: the first refusal of all entries is that of the entries from k on. Assumes nothing.
+-- `solo_replay::plan_refusal` meets its contract: the first refusal of all entries is that of the entries from k on.
+-- Assumes nothing.
 use borrow.Author.Needs.{needs}
 use Prim.Native.Nat.{_-_}
 use lib.ListN.{length}

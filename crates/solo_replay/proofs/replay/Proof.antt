@@ -1,4 +1,5 @@
--- `solo_replay::replay` meets its contract: what the plan comes to from I is what its steps from k on come to. Assumes nothing.
+-- `solo_replay::replay` meets its contract: what the plan comes to from I is what its steps from k on come to. Assumes
+-- nothing.
 use borrow.Author.Needs.{needs}
 use Prim.Native.Nat.{_-_, _<_}
 use lib.ListN.{length, getD}
@@ -34,10 +35,13 @@ cast-a c = omega (arith, c .shared-slice-known3 .given (c .before .before .loop 
 
 -- the step is an action
 inside : (c : tie.In-loop Inv-loop μ-loop)
-    → getD (c .before .before .before .before .before .args .plan .now) (c .before .loop .k) 0 < actions (c .before .before .before .before .before .args .t .now)
+    → getD (c .before .before .before .before .before .args .plan .now) (c .before .loop .k) 0 < actions
+    (c .before .before .before .before .before .args .t .now)
 inside c =
     let s = c .before .before .before .before .before in
-    entry-action (s .args .t .now) (s .args .i) _ (accepted-at (entry (s .args .t .now) (s .args .i)) (s .args .plan .now) (s .pre .1 .1) (c .before .loop .k) (omega arith))
+    entry-action (s .args .t .now) (s .args .i) _
+    (accepted-at (entry (s .args .t .now) (s .args .i)) (s .args .plan .now) (s .pre .1 .1) (c .before .loop .k)
+    (omega arith))
 
 local-act-requires : tie.Need-local-act-requires Inv-loop μ-loop
 local-act-requires c κs = (search needs, inside (c .before))

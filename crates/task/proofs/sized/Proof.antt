@@ -12,13 +12,16 @@ shared-slice-read-m : tie.Need-shared-slice-read-m
 shared-slice-read-m c = search needs
 
 add-result : tie.Need-add-result
-add-result c = let b = head-bounds (c .before .before .args .t .now) (c .before .before .pre .1) in omega (arith, b .0, b .1)
+add-result c = let b =
+    head-bounds (c .before .before .args .t .now) (c .before .before .pre .1) in omega (arith, b .0, b .1)
 
 add-result-2 : tie.Need-add-result-2
-add-result-2 c = let b = head-bounds (c .before .before .args .t .now) (c .before .before .pre .1) in omega (arith, b .0, b .1)
+add-result-2 c = let b =
+    head-bounds (c .before .before .args .t .now) (c .before .before .pre .1) in omega (arith, b .0, b .1)
 
 mul-result : tie.Need-mul-result
-mul-result c = let b = head-bounds (c .before .before .args .t .now) (c .before .before .pre .1) in omega (arith, b .0, b .1)
+mul-result c = let b =
+    head-bounds (c .before .before .args .t .now) (c .before .before .pre .1) in omega (arith, b .0, b .1)
 
 returns : tie.Need-returns
 returns c = search needs

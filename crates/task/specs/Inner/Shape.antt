@@ -14,7 +14,8 @@ Sized t = length t ≡ rowWidth * (1 + members t + actions t)
 
 -- the masks of action a have no bit at or above F
 unfoldable pub masksBelow : List ℕ → ℕ → Bool
-masksBelow t a = below (facts t) (pre t a) && below (facts t) (wait t a) && below (facts t) (add t a) && below (facts t) (del t a)
+masksBelow t a =
+    below (facts t) (pre t a) && below (facts t) (wait t a) && below (facts t) (add t a) && below (facts t) (del t a)
 
 -- the first refusal of the rows after row 0
 abbrev pub rowsRefusal : List ℕ → ℕ

@@ -13,9 +13,12 @@ use Rattle.semantics.specs.Task as Task
 use Rattle.semantics.specs.Task.{check}
 use Rattle.semantics.specs.System.{system, waits}
 use Rattle.semantics.specs.Solo.{Solo, solves, soloFrom, entry}
-use Rattle.semantics.specs.Run.{Run, Fault, by, isClosed, Replied, Outcome, failure, Replay, rest, runAfter, tally, pick, start, outcome, replayOn, replay, beginning, planOf, plansOf, endsFit, isSolves, planRefusal, plansRefusal, jointReplay}
+use Rattle.semantics.specs.Run.{Run, Fault, by, isClosed, Replied, Outcome, failure, Replay, rest, runAfter, tally}
+use Rattle.semantics.specs.Run.{pick, start, outcome, replayOn, replay, beginning, planOf, plansOf, endsFit, isSolves}
+use Rattle.semantics.specs.Run.{planRefusal, plansRefusal, jointReplay}
 use Rattle.semantics.specs.Model.{World, Acts, Collides, Execution, none, then, Solution}
-use Rattle.semantics.specs.Demands.{factsOf, setting, worldOf, worldAt, OutcomeOf, Ends, SolvingPlans, JointReplayAgrees}
+use Rattle.semantics.specs.Demands.{factsOf, setting, worldOf, worldAt, OutcomeOf, Ends, SolvingPlans}
+use Rattle.semantics.specs.Demands.{JointReplayAgrees}
 use Rattle.theory.proofs.Lists.{apart, and-elim, all-true, true-all, upTo-mem, mem-upTo}
 use Rattle.theory.proofs.Refusals.{else-both, if-not-true, no-refusal, refused-gives, upTo-refusal, unless-gives}
 use Rattle.theory.proofs.Accepted.{accepted}
@@ -32,12 +35,14 @@ use Rattle.theory.proofs.Agrees.Outcome.{outcome-says, outcome-unique}
 -- from the world w the picks end with this outcome and the facts of g, m of them being done
 pub data EndsFrom (t : List ℕ) : World (setting t) → List ℕ → Outcome → ℕ → ℕ → Type 0 where
   stop : {w : World (setting t)} {o : Outcome} {g : ℕ} → OutcomeOf t w o → w .state ≡ factsOf g → EndsFrom t w [] o g 0
-  crash : {w : World (setting t)} {i g : ℕ} → Collides (setting t) w i → w .state ≡ factsOf g → EndsFrom t w (i ∷ []) (failure Fault.collision) g 0
+  crash : {w : World (setting t)} {i g : ℕ} → Collides (setting t) w i → w .state ≡ factsOf g
+      → EndsFrom t w (i ∷ []) (failure Fault.collision) g 0
   on : {w w′ : World (setting t)} {i g m : ℕ} {is : List ℕ} {o : Outcome}
       → Acts (setting t) w i w′ → EndsFrom t w′ is o g m → EndsFrom t w (i ∷ is) o g (suc m)
 
 execution-ends : {t : List ℕ} {w w′ : World (setting t)} {picks : List ℕ} {o : Outcome} {g : ℕ}
-    → Execution (setting t) w picks w′ → OutcomeOf t w′ o → w′ .state ≡ factsOf g → EndsFrom t w picks o g (length picks)
+    → Execution (setting t) w picks w′ → OutcomeOf t w′ o → w′ .state ≡ factsOf g
+    → EndsFrom t w picks o g (length picks)
 execution-ends none s e = stop s e
 execution-ends (then a x) s e = on a (execution-ends x s e)
 
@@ -54,7 +59,9 @@ ends-from t plans (Ends.collided x c e) = execution-crashes x c e
 
 -- the two ways in which picks end
 abbrev Stopped : (t : List ℕ) → World (setting t) → List ℕ → Outcome → ℕ → ℕ → Type 0
-Stopped t w picks o g m = (w′ : World (setting t)) × Execution (setting t) w picks w′ × OutcomeOf t w′ o × (w′ .state ≡ factsOf g) × (m ≡ length picks)
+Stopped t w picks o g m =
+    (w′ : World (setting t)) × Execution (setting t) w picks w′ × OutcomeOf t w′ o × (w′ .state ≡ factsOf g)
+    × (m ≡ length picks)
 
 abbrev Crashed : (t : List ℕ) → World (setting t) → List ℕ → Outcome → ℕ → ℕ → Type 0
 Crashed t w picks o g m =
@@ -105,7 +112,8 @@ refused-replay t plans e k [] = refl
 refused-replay t plans e k (j ∷ js) = refl
 
 replay-path : {o o′ : Outcome} {g g′ n n′ : ℕ} → o ≡ o′ → g ≡ g′ → n ≡ n′
-    → _≡_ {A = Answer (Replay ℕ)} (gives (record { outcome = o; shared = g; picked = n })) (gives (record { outcome = o′; shared = g′; picked = n′ }))
+    → _≡_ {A = Answer (Replay ℕ)} (gives (record { outcome = o; shared = g; picked = n }))
+    (gives (record { outcome = o′; shared = g′; picked = n′ }))
 replay-path p q s = λ i. gives (record { outcome = p i; shared = q i; picked = s i })
 
 module _ (t : List ℕ) (plans : List (List ℕ)) where
@@ -116,12 +124,17 @@ module _ (t : List ℕ) (plans : List (List ℕ)) where
   abbrev Told : Run ℕ → ℕ → List ℕ → Replay ℕ → Type 0
   Told r k picks a = (m : ℕ) × (a .picked ≡ k + m) × EndsFrom t (worldAt t plans r) picks (a .outcome) (a .shared) m
 
-  closed-on : (r : Run ℕ) (f : Fault) → r .closed ≡ by f → (k : ℕ) (picks : List ℕ) (a : Replay ℕ) → on-from (gives r) k picks ≡ gives a
+  closed-on : (r : Run ℕ) (f : Fault) → r .closed ≡ by f → (k : ℕ) (picks : List ℕ) (a : Replay ℕ)
+      → on-from (gives r) k picks ≡ gives a
       → (picks ≡ []) × (a .outcome ≡ failure f) × (a .shared ≡ r .shared) × (a .picked ≡ k)
   unfolding replayOn
   closed-on r f c k [] a h =
-      let q : (record { outcome = outcome (system t) (waits t) plans r; shared = r .shared; picked = k }) ≡ a = cc in
-      (refl, sym (ap (λ (x : Replay ℕ). x .outcome) q) ∙ closed-outcome (system t) (waits t) plans r f c, sym (ap (λ (x : Replay ℕ). x .shared) q), sym (ap (λ (x : Replay ℕ). x .picked) q))
+      let q : (record { outcome = outcome (system t) (waits t) plans r; shared = r .shared; picked = k }) ≡ a = cc in (
+        refl,
+        sym (ap (λ (x : Replay ℕ). x .outcome) q) ∙ closed-outcome (system t) (waits t) plans r f c,
+        sym (ap (λ (x : Replay ℕ). x .shared) q),
+        sym (ap (λ (x : Replay ℕ). x .picked) q),
+      )
   closed-on r f c k (j ∷ js) a h =
       let (e, q) = closed-pick t plans r (ap isClosed c) j in
       let given : on-from (refused e) k js ≡ gives a =
@@ -140,7 +153,8 @@ module _ (t : List ℕ) (plans : List (List ℕ)) where
       (0, omega arith, rw (e, o) (crash k′ (ap factsOf (sym (g ∙ s)))))
   told-pick r j k js a (refused e) p ih h = absurd (apart (cc (refused-replay t plans e k js)))
 
-  replay-told : (picks : List ℕ) (r : Run ℕ) → Going r → (k : ℕ) (a : Replay ℕ) → on-from (gives r) k picks ≡ gives a → Told r k picks a
+  replay-told : (picks : List ℕ) (r : Run ℕ) → Going r → (k : ℕ) (a : Replay ℕ) → on-from (gives r) k picks ≡ gives a
+      → Told r k picks a
   unfolding replayOn
   replay-told [] r g k a h =
       let q : (record { outcome = outcome (system t) (waits t) plans r; shared = r .shared; picked = k }) ≡ a = cc in
@@ -150,27 +164,36 @@ module _ (t : List ℕ) (plans : List (List ℕ)) where
       (λ r′ g′ k′ e. replay-told js r′ g′ k′ a e) h
 
   -- a pick that collides, or that goes, is answered so
-  replay-crash : (r : Run ℕ) (i k g : ℕ) (x : Answer (Replied ℕ)) → Picked t plans r i x → Collides (setting t) (worldAt t plans r) i → g ≡ r .shared
-      → on-from (runAfter x) (tally k x) [] ≡ gives (record { outcome = failure Fault.collision; shared = g; picked = k + 0 })
+  replay-crash : (r : Run ℕ) (i k g : ℕ) (x : Answer (Replied ℕ)) → Picked t plans r i x
+      → Collides (setting t) (worldAt t plans r) i → g ≡ r .shared
+      → on-from (runAfter x) (tally k x) []
+      ≡ gives (record { outcome = failure Fault.collision; shared = g; picked = k + 0 })
   unfolding replayOn
-  replay-crash r i k g (gives p) (Picked.goes g′ act) c e = absurd (acts-collides (setting t) (worldAt t plans r) i act c)
+  replay-crash r i k g (gives p) (Picked.goes g′ act) c e =
+      absurd (acts-collides (setting t) (worldAt t plans r) i act c)
   replay-crash r i k g (gives p) (Picked.collides c s k′) col e =
       replay-path (closed-outcome (system t) (waits t) plans (p .run) Fault.collision c) (s ∙ sym e) (omega arith)
   replay-crash r i k g (refused n) (Picked.impossible h) c e =
-      absurd (moves-stays (setting t) (worldAt t plans r) i (inl c) (h (moves-agent (setting t) (worldAt t plans r) i (inl c))))
+      absurd (moves-stays (setting t) (worldAt t plans r) i (inl c)
+      (h (moves-agent (setting t) (worldAt t plans r) i (inl c))))
 
-  replay-act : (r : Run ℕ) (i k g m : ℕ) (is : List ℕ) (o : Outcome) (w : World (setting t)) (x : Answer (Replied ℕ)) → Picked t plans r i x
+  replay-act : (r : Run ℕ) (i k g m : ℕ) (is : List ℕ) (o : Outcome) (w : World (setting t)) (x : Answer (Replied ℕ))
+      → Picked t plans r i x
       → Acts (setting t) (worldAt t plans r) i w
-      → ((r′ : Run ℕ) → Going r′ → w ≡ worldAt t plans r′ → (k′ : ℕ) → on-from (gives r′) k′ is ≡ gives (record { outcome = o; shared = g; picked = k′ + m }))
+      → ((r′ : Run ℕ) → Going r′ → w ≡ worldAt t plans r′ → (k′ : ℕ)
+      → on-from (gives r′) k′ is ≡ gives (record { outcome = o; shared = g; picked = k′ + m }))
       → on-from (runAfter x) (tally k x) is ≡ gives (record { outcome = o; shared = g; picked = k + suc m })
   replay-act r i k g m is o w (gives p) (Picked.goes g′ act) a ih =
       ih (p .run) g′ (acts-unique (setting t) (worldAt t plans r) i a act) (k + 1) ∙ replay-path refl refl (omega arith)
-  replay-act r i k g m is o w (gives p) (Picked.collides c s k′) a ih = absurd (acts-collides (setting t) (worldAt t plans r) i a k′)
+  replay-act r i k g m is o w (gives p) (Picked.collides c s k′) a ih =
+      absurd (acts-collides (setting t) (worldAt t plans r) i a k′)
   replay-act r i k g m is o w (refused n) (Picked.impossible h) a ih =
-      absurd (moves-stays (setting t) (worldAt t plans r) i (inr (w, a)) (h (moves-agent (setting t) (worldAt t plans r) i (inr (w, a)))))
+      absurd (moves-stays (setting t) (worldAt t plans r) i (inr (w, a))
+      (h (moves-agent (setting t) (worldAt t plans r) i (inr (w, a)))))
 
   told-replay : {w : World (setting t)} {picks : List ℕ} {o : Outcome} {g m : ℕ} → EndsFrom t w picks o g m
-      → (r : Run ℕ) → Going r → w ≡ worldAt t plans r → (k : ℕ) → on-from (gives r) k picks ≡ gives (record { outcome = o; shared = g; picked = k + m })
+      → (r : Run ℕ) → Going r → w ≡ worldAt t plans r → (k : ℕ)
+      → on-from (gives r) k picks ≡ gives (record { outcome = o; shared = g; picked = k + m })
   unfolding replayOn
   told-replay (stop {w} {o} {g} s e) r gr q k =
       replay-path (outcome-unique t plans r gr o (subst (λ (v : World (setting t)). OutcomeOf t v o) q s))
@@ -220,7 +243,8 @@ module _ (t plans ends : List ℕ) where
 
   -- the plans' check, taken apart
   checked : plansRefusal t plans ends ≡ 0
-      → (check t ≡ 0) × (endsFit (Task.members t) plans ends ≡ true) × (firstRefusal planned (upTo (Task.members t)) ≡ 0)
+      → (check t ≡ 0) × (endsFit (Task.members t) plans ends ≡ true)
+      × (firstRefusal planned (upTo (Task.members t)) ≡ 0)
   unfolding plansRefusal
   checked h =
       let (c, r) = else-both (check t) _ h in
@@ -258,19 +282,31 @@ module _ (t plans ends : List ℕ) where
     abbrev P : List (List ℕ)
     P = plansOf (Task.members t) plans ends
 
-    answer : (picks : List ℕ) → jointReplay t plans ends picks ≡ replayOn (system t) (waits t) P (gives (start (system t))) 0 picks
+    answer : (picks : List ℕ)
+        → jointReplay t plans ends picks ≡ replayOn (system t) (waits t) P (gives (start (system t))) 0 picks
     unfolding jointReplay replay
     answer picks = ap (λ (r : ℕ). unless r (replayOn (system t) (waits t) P (gives (start (system t))) 0 picks)) h
 
     begins : (a : Replay ℕ) × (jointReplay t plans ends [] ≡ gives a)
     unfolding replayOn
-    begins = (record { outcome = outcome (system t) (waits t) P (start (system t)); shared = start (system t) .shared; picked = 0 }, answer [])
+    begins = (
+      record {
+        outcome = outcome (system t) (waits t) P (start (system t));
+        shared =
+            start (system t) .shared;
+        picked = 0;
+      },
+      answer [],
+    )
 
     replays : (picks : List ℕ) (o : Outcome) (g k : ℕ)
-        → (jointReplay t plans ends picks ≡ gives (record { outcome = o; shared = g; picked = k })) ↔ Ends t P picks o g k
+        → (jointReplay t plans ends picks
+        ≡ gives (record { outcome = o; shared = g; picked = k })) ↔ Ends t P picks o g k
     replays picks o g k = (
       λ e.
-          let (m, q, f) = replay-told t P picks (start (system t)) (start-going t) 0 (record { outcome = o; shared = g; picked = k }) (sym (answer picks) ∙ e) in
+          let (m, q, f) =
+          replay-told t P picks (start (system t)) (start-going t) 0
+          (record { outcome = o; shared = g; picked = k }) (sym (answer picks) ∙ e) in
           let m′ : m ≡ k = omega arith in
           from-ends t P (rw (start-world t P) (subst (EndsFrom t (worldAt t P (start (system t))) picks o g) m′ f)),
       λ e.

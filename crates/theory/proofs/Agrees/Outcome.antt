@@ -1,4 +1,5 @@
--- The outcome of a run agrees with the model: it says of the run's world what the model says, and no other outcome does.
+-- The outcome of a run agrees with the model: it says of the run's world what the model says, and no other outcome
+-- does.
 use mathlib.Core.Path.{_≡_, refl, sym, ap, _∙_}
 use mathlib.Core.Bool.{Bool, true, false, cond, false≢true}
 use mathlib.Core.Logic.{_↔_, inl, inr, ⊎-elim}
@@ -11,10 +12,12 @@ use borrow.Author.Tests.{ltb-false}
 use Rattle.semantics.specs.Base.{Answer, refused, gives, numbersFrom, upTo}
 use Rattle.semantics.specs.Task as Task
 use Rattle.semantics.specs.System.{System, system, waits}
-use Rattle.semantics.specs.Run.{Run, Fault, Closed, Replied, Outcome, success, failure, still-open, closing, missed, deadlock, rest, given, pick, pickable, stepsLeft, missedIn, outcome}
+use Rattle.semantics.specs.Run.{Run, Fault, Closed, Replied, Outcome, success, failure, still-open, closing, missed}
+use Rattle.semantics.specs.Run.{deadlock, rest, given, pick, pickable, stepsLeft, missedIn, outcome}
 use Rattle.semantics.specs.Model.{World, Waiting, Ended, GoesOn}
 use Rattle.semantics.specs.Demands.{setting, OutcomeOf, worldAt, Stays}
-use Rattle.theory.proofs.Lists.{lt-or-ge, not-true-false, not-false-true, any-true, true-any, any-false, false-any, mem-upTo, upTo-mem}
+use Rattle.theory.proofs.Lists.{lt-or-ge, not-true-false, not-false-true, any-true, true-any, any-false}
+use Rattle.theory.proofs.Lists.{false-any, mem-upTo, upTo-mem}
 use Rattle.theory.proofs.Masks.{within-sub, sub-within}
 use Rattle.theory.proofs.Agrees.Step.{not-within, not-sub}
 use Rattle.theory.proofs.Agrees.Worlds.{Moves, moves-agent, moves-stays, waiting-left, ended-goes, deadlock-goes}
@@ -25,12 +28,14 @@ use Rattle.theory.proofs.Agrees.Pick.{Going, Picked, picked}
 module _ (S : System) (g : S .State) where
   pub data FirstMissed (k c : ℕ) : Outcome → Type 0 where
     held : ((j : ℕ) → k ≤ j → j < k + c → S .goal j g ≡ true) → FirstMissed k c success
-    first : {i : ℕ} → k ≤ i → i < k + c → S .goal i g ≡ false → ((j : ℕ) → k ≤ j → j < i → S .goal j g ≡ true) → FirstMissed k c (failure (missed i))
+    first : {i : ℕ} → k ≤ i → i < k + c → S .goal i g ≡ false → ((j : ℕ) → k ≤ j → j < i → S .goal j g ≡ true)
+        → FirstMissed k c (failure (missed i))
 
   -- the goal of k holds too
   widen : (k c : ℕ) (o : Outcome) → S .goal k g ≡ true → FirstMissed (suc k) c o → FirstMissed k (suc c) o
   widen k c success e (held h) =
-      held (λ j l u. ⊎-elim (λ (s : k < j). h j s (omega arith)) (λ (s : j ≤ k). let q : j ≡ k = omega arith in rw q e) (lt-or-ge k j))
+      held (λ j l u. ⊎-elim (λ (s : k < j). h j s (omega arith)) (λ (s : j ≤ k). let q : j ≡ k = omega arith in rw q e)
+      (lt-or-ge k j))
   widen k c (failure (missed i)) e (first l u n h) =
       first {i = i} (omega arith) (omega arith) n
       (λ j m v. ⊎-elim (λ (s : k < j). h j s v) (λ (s : j ≤ k). let q : j ≡ k = omega arith in rw q e) (lt-or-ge k j))
@@ -48,7 +53,8 @@ module _ (S : System) (g : S .State) where
   pub first-missed-unique : (k c : ℕ) (o o′ : Outcome) → FirstMissed k c o → FirstMissed k c o′ → o ≡ o′
   first-missed-unique k c success success (held h) (held h′) = refl
   first-missed-unique k c success (failure (missed i)) (held h) (first l u n h′) = absurd (false≢true (sym n ∙ h i l u))
-  first-missed-unique k c (failure (missed i)) success (first l u n h) (held h′) = absurd (false≢true (sym n ∙ h′ i l u))
+  first-missed-unique k c (failure (missed i)) success (first l u n h) (held h′) =
+      absurd (false≢true (sym n ∙ h′ i l u))
   first-missed-unique k c (failure (missed i)) (failure (missed j)) (first l u n h) (first l′ u′ n′ h′) =
       ⊎-elim
       (λ (s : i < j). absurd (false≢true (sym n ∙ h′ i l s)))
@@ -68,8 +74,11 @@ picked-given : (t : List ℕ) (plans : List (List ℕ)) (r : Run ℕ) (j : ℕ) 
     → (given x ≡ true) ↔ Moves (setting t) (worldAt t plans r) j
 picked-given t plans r j (gives p) (Picked.goes g a) = (λ h. inr (worldAt t plans (p .run), a), λ m. refl)
 picked-given t plans r j (gives p) (Picked.collides c s k) = (λ h. inl k, λ m. refl)
-picked-given t plans r j (refused e) (Picked.impossible h) =
-    (λ k. absurd (false≢true k), λ m. absurd (moves-stays (setting t) (worldAt t plans r) j m (h (moves-agent (setting t) (worldAt t plans r) j m))))
+picked-given t plans r j (refused e) (Picked.impossible h) = (
+  λ k. absurd (false≢true k),
+  λ m. absurd
+      (moves-stays (setting t) (worldAt t plans r) j m (h (moves-agent (setting t) (worldAt t plans r) j m))),
+)
 
 picked-stays : (t : List ℕ) (plans : List (List ℕ)) (r : Run ℕ) (j : ℕ) (x : Answer (Replied ℕ)) → Picked t plans r j x
     → given x ≡ false → j < Task.members t → Stays (setting t) (worldAt t plans r) j
@@ -114,8 +123,13 @@ module _ (t : List ℕ) (plans : List (List ℕ)) (r : Run ℕ) (going : Going r
   unfolding stepsLeft
   steps-waiting h s =
       let (i, m, e) = any-true (λ j. ltb 0 (length (rest plans r j))) (upTo (Task.members t)) s in
-      let l = upTo-mem (Task.members t) m in
-      (i, l, ⊎-elim (λ w. w) (λ (q : rest plans r i ≡ []). absurd (false≢true (sym (ap (λ (p : List ℕ). ltb 0 (length p)) q) ∙ e))) (all-stay h i l))
+      let l = upTo-mem (Task.members t) m in (
+        i,
+        l,
+        ⊎-elim (λ w. w)
+            (λ (q : rest plans r i ≡ []). absurd (false≢true (sym (ap (λ (p : List ℕ). ltb 0 (length p)) q) ∙ e)))
+            (all-stay h i l),
+      )
 
   no-steps-ended : has-steps ≡ false → Ended (setting t) world
   unfolding stepsLeft
@@ -143,10 +157,16 @@ module _ (t : List ℕ) (plans : List (List ℕ)) (r : Run ℕ) (going : Going r
       ap (λ (x : Closed). closing x (cond can-pick still-open (cond has-steps (failure deadlock) goals-outcome))) going
       ∙ rw (p, s)
 
-  goals-of : Ended (setting t) world → (o : Outcome) → FirstMissed (system t) (r .shared) 0 (Task.members t) o → OutcomeOf t world o
-  goals-of e success (FirstMissed.held h) = (e, λ i l. within-sub (Task.goal t i) (r .shared) (h i zero-le (omega arith)))
-  goals-of e (failure (missed i)) (FirstMissed.first l u n h) =
-      (e, omega arith, not-within (Task.goal t i) (r .shared) n, λ j v. within-sub (Task.goal t j) (r .shared) (h j zero-le v))
+  goals-of : Ended (setting t) world → (o : Outcome) → FirstMissed (system t) (r .shared) 0 (Task.members t) o
+      → OutcomeOf t world o
+  goals-of e success (FirstMissed.held h) =
+      (e, λ i l. within-sub (Task.goal t i) (r .shared) (h i zero-le (omega arith)))
+  goals-of e (failure (missed i)) (FirstMissed.first l u n h) = (
+    e,
+    omega arith,
+    not-within (Task.goal t i) (r .shared) n,
+    λ j v. within-sub (Task.goal t j) (r .shared) (h j zero-le v),
+  )
 
   pub outcome-says : OutcomeOf t world (outcome (system t) (waits t) plans r)
   outcome-says = go can-pick has-steps refl refl
@@ -162,7 +182,8 @@ module _ (t : List ℕ) (plans : List (List ℕ)) (r : Run ℕ) (going : Going r
       → outcome (system t) (waits t) plans r ≡ o
   goals-are o e f =
       outcome-by false false (ended-no-pick e) (ended-no-steps e)
-      ∙ first-missed-unique (system t) (r .shared) 0 (Task.members t) goals-outcome o (first-missed (system t) (r .shared) 0 (Task.members t)) f
+      ∙ first-missed-unique (system t) (r .shared) 0 (Task.members t) goals-outcome o
+      (first-missed (system t) (r .shared) 0 (Task.members t)) f
 
   pub outcome-unique : (o : Outcome) → OutcomeOf t world o → outcome (system t) (waits t) plans r ≡ o
   outcome-unique success (e, g) =
@@ -175,5 +196,6 @@ module _ (t : List ℕ) (plans : List (List ℕ)) (r : Run ℕ) (going : Going r
       (not-false-true has-steps (λ h. waiting-left (setting t) world i w (no-steps-ended h i l)))
   outcome-unique (failure (Fault.missed i)) (e, l, n, h) =
       goals-are (failure (missed i)) e
-      (FirstMissed.first {i = i} zero-le (omega arith) (not-sub (Task.goal t i) (r .shared) n) (λ j m v. sub-within (Task.goal t j) (r .shared) (h j v)))
+      (FirstMissed.first {i = i} zero-le (omega arith) (not-sub (Task.goal t i) (r .shared) n)
+      (λ j m v. sub-within (Task.goal t j) (r .shared) (h j v)))
   outcome-unique (failure Fault.collision) x = absurd x

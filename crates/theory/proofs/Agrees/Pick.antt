@@ -12,7 +12,8 @@ use Rattle.semantics.specs.Base.{upTo, _if_, Answer, refused, gives}
 use Rattle.semantics.specs.Mask.{below}
 use Rattle.semantics.specs.Task as Task
 use Rattle.semantics.specs.System.{able, result, system, waits}
-use Rattle.semantics.specs.Run.{Run, Fault, not-yet, by, isClosed, Reply, Replied, rest, stepped, closedBy, pick, planOf, plansOf, plansRefusal, runRefusal, pickOn}
+use Rattle.semantics.specs.Run.{Run, Fault, not-yet, by, isClosed, Reply, Replied, rest, stepped, closedBy, pick}
+use Rattle.semantics.specs.Run.{planOf, plansOf, plansRefusal, runRefusal, pickOn}
 use Rattle.semantics.specs.Model.{World, leaving, apply, Acts, acts, Collides, Waiting}
 use Rattle.semantics.specs.Demands.{factsOf, setting, worldAt, worldIn, Stays, RunFits, PickAgrees}
 use Rattle.theory.proofs.Lists.{apart, any-false, false-any, upTo-mem, mem-upTo}
@@ -31,7 +32,8 @@ Going r = r .closed ≡ not-yet
 pub data Picked (t : List ℕ) (plans : List (List ℕ)) (r : Run ℕ) (j : ℕ) : Answer (Replied ℕ) → Type 0 where
   goes : {r′ : Run ℕ} → Going r′ → Acts (setting t) (worldAt t plans r) j (worldAt t plans r′)
       → Picked t plans r j (gives (record { reply = Reply.goes; run = r′ }))
-  collides : {r′ : Run ℕ} → r′ .closed ≡ by Fault.collision → r′ .shared ≡ r .shared → Collides (setting t) (worldAt t plans r) j
+  collides : {r′ : Run ℕ} → r′ .closed ≡ by Fault.collision → r′ .shared ≡ r .shared
+      → Collides (setting t) (worldAt t plans r) j
       → Picked t plans r j (gives (record { reply = Reply.collides; run = r′ }))
   impossible : {e : ℕ} → (j < Task.members t → Stays (setting t) (worldAt t plans r) j) → Picked t plans r j (refused e)
 
@@ -61,14 +63,16 @@ module _ (t : List ℕ) (plans : List (List ℕ)) (r : Run ℕ) (going : Going r
       impossible (λ l. inl (Waiting.waiting left (waits-lack t a (r .shared) w)))
   asked x (Pick.Picked.goes {a = a} {p = π} h e left w b) =
       goes refl
-      (subst (Acts (setting t) (worldAt t plans r) j) (sym (gone-world h a π left b)) (acts h left (asks-within t a (r .shared) w) (able-sub t a (r .shared) b)))
+      (subst (Acts (setting t) (worldAt t plans r) j) (sym (gone-world h a π left b))
+      (acts h left (asks-within t a (r .shared) w) (able-sub t a (r .shared) b)))
   asked x (Pick.Picked.collides {a = a} h e left w b) =
       collides refl refl
       (Collides.collides h left (asks-within t a (r .shared) w) (unable-not-sub t a (r .shared) b))
 
 pub picked : (t : List ℕ) → (plans : List (List ℕ)) (r : Run ℕ) → Going r
     → (j : ℕ) → Picked t plans r j (pick (system t) (waits t) plans r j)
-picked t plans r going j = asked t plans r going j (pick (system t) (waits t) plans r j) (Pick.picked (system t) (waits t) plans r j)
+picked t plans r going j =
+    asked t plans r going j (pick (system t) (waits t) plans r j) (Pick.picked (system t) (waits t) plans r j)
 
 -- ---- the operation
 
@@ -108,10 +112,12 @@ module _ (t plans ends : List ℕ) (r : Run ℕ) (i : ℕ) where
 
   pub pick-fits : (p : Replied ℕ) → pickOn t plans ends r i ≡ gives p → RunFits t plans ends r
   unfolding pickOn
-  pick-fits p e = passes-fits t plans ends r (unless-gives (runRefusal t plans ends r) (pick (system t) (waits t) P r i) e .0)
+  pick-fits p e =
+      passes-fits t plans ends r (unless-gives (runRefusal t plans ends r) (pick (system t) (waits t) P r i) e .0)
 
   -- what a pick that goes, one that collides and one of a member that stays say, each both ways
-  goes-told : (g : ℕ) → pickOn t plans ends r i ≡ gives (record { reply = Reply.goes; run = stepped r i g }) → i < Task.members t → r .closed ≡ not-yet
+  goes-told : (g : ℕ) → pickOn t plans ends r i ≡ gives (record { reply = Reply.goes; run = stepped r i g })
+      → i < Task.members t → r .closed ≡ not-yet
       → Acts (setting t) W i (worldIn t plans ends (stepped r i g)) → PickAgrees t plans ends r i
   goes-told g e h c act =
       record {
@@ -119,7 +125,8 @@ module _ (t plans ends : List ℕ) (r : Run ℕ) (i : ℕ) where
           λ q. let s : g ≡ g′ = ap (λ (x : Replied ℕ). x .run .shared) (gives-inj (sym e ∙ q)) in
               (c, subst (λ (x : ℕ). Acts (setting t) W i (worldIn t plans ends (stepped r i x))) s act),
           λ k.
-              let s = same-facts g g′ (ap (λ (w : World (setting t)). w .state) (acts-unique (setting t) W i act (k .1))) in
+              let s = same-facts g g′
+              (ap (λ (w : World (setting t)). w .state) (acts-unique (setting t) W i act (k .1))) in
               e ∙ ap (λ (x : ℕ). gives (record { reply = Reply.goes; run = stepped r i x })) s,
         );
         collides = (
@@ -129,11 +136,14 @@ module _ (t plans ends : List ℕ) (r : Run ℕ) (i : ℕ) where
         nobody = (λ q. absurd (refused-gives (sym q ∙ e)), λ k. absurd (k h));
         impossible = (
           λ q. absurd (refused-gives (sym q ∙ e)),
-          λ k. absurd (⊎-elim (λ d. closed-open d c) (moves-stays (setting t) W i (inr (worldIn t plans ends (stepped r i g), act))) (k .1)),
+          λ k. absurd
+              (⊎-elim (λ d. closed-open d c)
+              (moves-stays (setting t) W i (inr (worldIn t plans ends (stepped r i g), act))) (k .1)),
         );
       }
 
-  collides-told : pickOn t plans ends r i ≡ gives (record { reply = Reply.collides; run = closedBy r Fault.collision }) → i < Task.members t → r .closed ≡ not-yet → Collides (setting t) W i
+  collides-told : pickOn t plans ends r i ≡ gives (record { reply = Reply.collides; run = closedBy r Fault.collision })
+      → i < Task.members t → r .closed ≡ not-yet → Collides (setting t) W i
       → PickAgrees t plans ends r i
   collides-told e h c crash =
       record {
@@ -149,7 +159,8 @@ module _ (t plans ends : List ℕ) (r : Run ℕ) (i : ℕ) where
         );
       }
 
-  stays-told : pickOn t plans ends r i ≡ refused 13 → i < Task.members t → Stays (setting t) W i → PickAgrees t plans ends r i
+  stays-told : pickOn t plans ends r i ≡ refused 13 → i < Task.members t → Stays (setting t) W i
+      → PickAgrees t plans ends r i
   stays-told e h s =
       record {
         goes = λ g. (
@@ -162,19 +173,25 @@ module _ (t plans ends : List ℕ) (r : Run ℕ) (i : ℕ) where
       }
 
   -- the world after the step is the one that the scheduler's choice makes
-  its-acts : (a : ℕ) (π : List ℕ) → i < Task.members t → r .closed ≡ not-yet → rest P r i ≡ a ∷ π → waits t a (r .shared) ≡ false
+  its-acts : (a : ℕ) (π : List ℕ) → i < Task.members t → r .closed ≡ not-yet → rest P r i ≡ a ∷ π
+      → waits t a (r .shared) ≡ false
       → able (system t) a (r .shared) ≡ true
       → Acts (setting t) W i (worldIn t plans ends (stepped r i (result (system t) a (r .shared))))
   its-acts a π h c left w b =
       subst (Acts (setting t) W i) (sym (gone-world t P r c i h a π left b))
       (acts h left (asks-within t a (r .shared) w) (able-sub t a (r .shared) b))
 
-  told : (x : Answer (Replied ℕ)) → pickOn t plans ends r i ≡ x → Pick.Picked (system t) (waits t) P r i x → PickAgrees t plans ends r i
+  told : (x : Answer (Replied ℕ)) → pickOn t plans ends r i ≡ x → Pick.Picked (system t) (waits t) P r i x
+      → PickAgrees t plans ends r i
   told x e (Pick.Picked.nobody h) =
       let n : ¬ (i < Task.members t) = λ l. omega arith in
       record {
-        goes = λ g. (λ q. absurd (refused-gives (sym e ∙ q)), λ k. absurd (n (moves-agent (setting t) W i (inr (worldIn t plans ends (stepped r i g), k .1)))));
-        collides = (λ q. absurd (refused-gives (sym e ∙ q)), λ k. absurd (n (moves-agent (setting t) W i (inl (k .1)))));
+        goes = λ g. (
+          λ q. absurd (refused-gives (sym e ∙ q)),
+          λ k. absurd (n (moves-agent (setting t) W i (inr (worldIn t plans ends (stepped r i g), k .1)))),
+        );
+        collides =
+            (λ q. absurd (refused-gives (sym e ∙ q)), λ k. absurd (n (moves-agent (setting t) W i (inl (k .1)))));
         nobody = (λ q. n, λ k. e);
         impossible = (λ q. absurd (apart (cc)), λ k. absurd (n (k .0)));
       }
@@ -186,8 +203,10 @@ module _ (t plans ends : List ℕ) (r : Run ℕ) (i : ℕ) where
         impossible = (λ q. (h, inl c), λ k. e);
       }
   told x e (Pick.Picked.over h c left) = stays-told e h (inr left)
-  told x e (Pick.Picked.waits {a = a} h c left w) = stays-told e h (inl (Waiting.waiting left (waits-lack t a (r .shared) w)))
-  told x e (Pick.Picked.goes {a = a} {p = π} h c left w b) = goes-told (result (system t) a (r .shared)) e h c (its-acts a π h c left w b)
+  told x e (Pick.Picked.waits {a = a} h c left w) =
+      stays-told e h (inl (Waiting.waiting left (waits-lack t a (r .shared) w)))
+  told x e (Pick.Picked.goes {a = a} {p = π} h c left w b) =
+      goes-told (result (system t) a (r .shared)) e h c (its-acts a π h c left w b)
   told x e (Pick.Picked.collides {a = a} h c left w b) =
       collides-told e h c (Collides.collides h left (asks-within t a (r .shared) w) (unable-not-sub t a (r .shared) b))
 

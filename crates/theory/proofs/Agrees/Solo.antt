@@ -40,14 +40,16 @@ Completes t i s p = (s′ : FactSet) × Executes (setting t) i (factsOf s) p s�
 
 -- an action in front
 pub executes-then : (t : List ℕ) (i s a : ℕ) (p : List ℕ) {s′ : FactSet}
-    → Own (system t) i a → setting t .pre a ⊆ factsOf s → Executes (setting t) i (factsOf (after s (Task.add t a) (Task.del t a))) p s′
+    → Own (system t) i a → setting t .pre a ⊆ factsOf s
+    → Executes (setting t) i (factsOf (after s (Task.add t a) (Task.del t a))) p s′
     → Executes (setting t) i (factsOf s) (a ∷ p) s′
 executes-then t i s a p {s′} own able rest =
     then own able (subst (λ (A : FactSet). Executes (setting t) i A p s′) (facts-after t a s) rest)
 
 -- the rest, after an action in front
 pub executes-rest : (t : List ℕ) (i s a : ℕ) (p : List ℕ) {s′ : FactSet}
-    → Executes (setting t) i (factsOf s) (a ∷ p) s′ → Executes (setting t) i (factsOf (after s (Task.add t a) (Task.del t a))) p s′
+    → Executes (setting t) i (factsOf s) (a ∷ p) s′
+    → Executes (setting t) i (factsOf (after s (Task.add t a) (Task.del t a))) p s′
 executes-rest t i s a p {s′} e =
     subst (λ (A : FactSet). Executes (setting t) i A p s′) (sym (facts-after t a s)) (executes-cons (setting t) i e .2)
 
@@ -62,7 +64,8 @@ leads-completes t i s (a ∷ p) (next {s′ = n} own act l) =
 
 pub completes-leads : (t : List ℕ) (i s : ℕ) (p : List ℕ) → Completes t i s p → Leads (system t) i s p
 completes-leads t i s [] (s′, e, g) =
-    done (sub-within (Task.goal t i) s (subst (λ (A : FactSet). setting t .goal i ⊆ A) (sym (executes-nil (setting t) i e)) g))
+    done (sub-within (Task.goal t i) s
+    (subst (λ (A : FactSet). setting t .goal i ⊆ A) (sym (executes-nil (setting t) i e)) g))
 completes-leads t i s (a ∷ p) (s′, e, g) =
     let c = executes-cons (setting t) i e in
     next (c .0) (within-goes t a s (sub-within (Task.pre t a) s (c .1)))
@@ -113,7 +116,8 @@ replayed-cons t i k s a p (breaks n) own able (j, q, (A, e, b, π, d, misses)) =
 replayed-cons t i k s a p short own able (A, e, g) = (A, executes-then t i s a p own able e, g)
 
 -- what the answer says is so
-pub soloFrom-replayed : (t : List ℕ) (i k s : ℕ) (p : List ℕ) → OwnAll t i p → Replayed t i k s p (soloFrom (system t) i k s p)
+pub soloFrom-replayed : (t : List ℕ) (i k s : ℕ) (p : List ℕ) → OwnAll t i p
+    → Replayed t i k s p (soloFrom (system t) i k s p)
 unfolding soloFrom
 soloFrom-replayed t i k s [] own = go (within (Task.goal t i) s) refl
   where
@@ -125,7 +129,8 @@ soloFrom-replayed t i k s (a ∷ p) own =
     go (within (Task.pre t a) s) refl (soloFrom-replayed t i (suc k) s′ p (λ b m. own b (List·Memᴰ·tail m)))
   where
     go : (b : Bool) → within (Task.pre t a) s ≡ b
-        → Replayed t i (suc k) (after s (Task.add t a) (Task.del t a)) p (soloFrom (system t) i (suc k) (after s (Task.add t a) (Task.del t a)) p)
+        → Replayed t i (suc k) (after s (Task.add t a) (Task.del t a)) p
+        (soloFrom (system t) i (suc k) (after s (Task.add t a) (Task.del t a)) p)
         → Replayed t i k s (a ∷ p)
         (tried (cond b (goes (after s (Task.add t a) (Task.del t a))) lacks)
         (λ next. soloFrom (system t) i (suc k) next p) (breaks k))
@@ -135,18 +140,23 @@ soloFrom-replayed t i k s (a ∷ p) own =
     go false e r = (0, omega arith, (factsOf s, none, a, p, refl, not-within (Task.pre t a) s e))
 
 -- the goal, or a precondition, in a state that is reached by no step
-at-nil : (t : List ℕ) (i s : ℕ) (A : FactSet) (B : FactSet) → Executes (setting t) i (factsOf s) [] A → B ⊆ A → B ⊆ factsOf s
+at-nil : (t : List ℕ) (i s : ℕ) (A : FactSet) (B : FactSet) → Executes (setting t) i (factsOf s) [] A → B ⊆ A
+    → B ⊆ factsOf s
 at-nil t i s A B e h = subst (λ (C : FactSet). B ⊆ C) (sym (executes-nil (setting t) i e)) h
 
-not-at-nil : (t : List ℕ) (i s : ℕ) (A : FactSet) (B : FactSet) → Executes (setting t) i (factsOf s) [] A → ¬ (B ⊆ A) → ¬ (B ⊆ factsOf s)
+not-at-nil : (t : List ℕ) (i s : ℕ) (A : FactSet) (B : FactSet) → Executes (setting t) i (factsOf s) [] A → ¬ (B ⊆ A)
+    → ¬ (B ⊆ factsOf s)
 not-at-nil t i s A B e n h = n (subst (λ (C : FactSet). B ⊆ C) (executes-nil (setting t) i e) h)
 
 -- and only that answer says so
-pub replayed-soloFrom : (t : List ℕ) (i k s : ℕ) (p : List ℕ) (r : Solo) → Replayed t i k s p r → soloFrom (system t) i k s p ≡ r
+pub replayed-soloFrom : (t : List ℕ) (i k s : ℕ) (p : List ℕ) (r : Solo) → Replayed t i k s p r
+    → soloFrom (system t) i k s p ≡ r
 unfolding soloFrom
-replayed-soloFrom t i k s [] solves (A, e, g) = rw (sub-within (Task.goal t i) s (at-nil t i s A (setting t .goal i) e g))
+replayed-soloFrom t i k s [] solves (A, e, g) =
+    rw (sub-within (Task.goal t i) s (at-nil t i s A (setting t .goal i) e g))
 replayed-soloFrom t i k s [] (breaks n) (j, q, (A, e, b, π, d, misses)) = absurd (apart (cc (drop-nil {A = ℕ} j)))
-replayed-soloFrom t i k s [] short (A, e, g) = rw (not-sub (Task.goal t i) s (not-at-nil t i s A (setting t .goal i) e g))
+replayed-soloFrom t i k s [] short (A, e, g) =
+    rw (not-sub (Task.goal t i) s (not-at-nil t i s A (setting t .goal i) e g))
 replayed-soloFrom t i k s (a ∷ p) solves (A, e, g) =
     rw (sub-within (Task.pre t a) s (executes-cons (setting t) i e .1))
     (replayed-soloFrom t i (suc k) (after s (Task.add t a) (Task.del t a)) p solves (A, executes-rest t i s a p e, g))
@@ -186,9 +196,14 @@ solo-replay-agrees t i plan h =
 
     says : (r : Solo) → (soloReplay t i plan ≡ gives r) ↔ Replayed t i 0 (Task.initial t) plan r
     says r = (
-      λ e. let q : from ≡ r = cc in subst (Replayed t i 0 (Task.initial t) plan) q (soloFrom-replayed t i 0 (Task.initial t) plan own),
+      λ e. let q : from ≡ r =
+          cc in subst (Replayed t i 0 (Task.initial t) plan) q (soloFrom-replayed t i 0 (Task.initial t) plan own),
       λ e. answer ∙ ap gives (replayed-soloFrom t i 0 (Task.initial t) plan r e),
     )
 
     at : (k : ℕ) → ((j : ℕ) × (k ≡ 0 + j) × BreaksAt t i (Task.initial t) plan j) ↔ BreaksAt t i (Task.initial t) plan k
-    at k = (λ r. let q : r .0 ≡ k = omega arith in subst (BreaksAt t i (Task.initial t) plan) q (r .2), λ b. (k, omega arith, b))
+    at k = (
+      λ r. let q : r .0 ≡ k =
+          omega arith in subst (BreaksAt t i (Task.initial t) plan) q (r .2),
+      λ b. (k, omega arith, b),
+    )

@@ -27,7 +27,8 @@ pub same-facts : (a b : ℕ) → factsOf a ≡ factsOf b → a ≡ b
 same-facts a b e = mask-ext a b (λ f. ap (λ (A : FactSet). A f) e)
 
 -- the facts after an action are those that the model gives
-pub facts-after : (t : List ℕ) (a s : ℕ) → factsOf (after s (Task.add t a) (Task.del t a)) ≡ apply (setting t) a (factsOf s)
+pub facts-after : (t : List ℕ) (a s : ℕ)
+    → factsOf (after s (Task.add t a) (Task.del t a)) ≡ apply (setting t) a (factsOf s)
 facts-after t a s = fun-ext (λ f. after-has s (Task.add t a) (Task.del t a) f)
 
 pub facts-result : (t : List ℕ) (a s : ℕ) → able (system t) a s ≡ true
@@ -36,7 +37,8 @@ facts-result t a s b = ap factsOf (result-after t a s b) ∙ facts-after t a s
 
 -- what the routine's answer says of the facts of g
 pub data Decides (t : List ℕ) (a g : ℕ) : Decision ℕ → Type 0 where
-  goes : setting t .waitfor a ⊆ factsOf g → setting t .pre a ⊆ factsOf g → Decides t a g (Decision.go (after g (Task.add t a) (Task.del t a)))
+  goes : setting t .waitfor a ⊆ factsOf g → setting t .pre a ⊆ factsOf g
+      → Decides t a g (Decision.go (after g (Task.add t a) (Task.del t a)))
   waiting : ¬ (setting t .waitfor a ⊆ factsOf g) → Decides t a g Decision.wait
   collides : setting t .waitfor a ⊆ factsOf g → ¬ (setting t .pre a ⊆ factsOf g) → Decides t a g Decision.collision
 
@@ -60,7 +62,8 @@ decided t a g (Decision.go s) e (goes w p) =
     record {
       goes = λ s. (
         λ h. (w, p, (let q : after g (Task.add t a) (Task.del t a) ≡ s = cc in rw (← q) (facts-after t a g))),
-        λ h. e ∙ ap (λ (x : ℕ). gives (Decision.go x)) (same-facts (after g (Task.add t a) (Task.del t a)) s (facts-after t a g ∙ sym (h .2))),
+        λ h. e ∙ ap (λ (x : ℕ). gives (Decision.go x))
+            (same-facts (after g (Task.add t a) (Task.del t a)) s (facts-after t a g ∙ sym (h .2))),
       );
       waits = (λ h. absurd (apart (cc)), λ h. absurd (h w));
       collides = (λ h. absurd (apart (cc)), λ h. absurd (h .1 p));

@@ -3,7 +3,8 @@ use mathlib.Core.Path.{_≡_, subst}
 use mathlib.Core.Logic.{_⊎_, inl, inr}
 use mathlib.Core.List.{List, [], _∷_}
 use Prim.Native.Nat.{ℕ, _<_}
-use Rattle.semantics.specs.Model.{Setting, _⊆_, World, Acts, acts, Collides, collides, Waiting, waiting, Ended, Deadlock, GoesOn}
+use Rattle.semantics.specs.Model.{Setting, _⊆_, World, Acts, acts, Collides, collides, Waiting, waiting, Ended}
+use Rattle.semantics.specs.Model.{Deadlock, GoesOn}
 use Rattle.semantics.specs.Demands.{Stays}
 use Rattle.theory.proofs.Lists.{apart}
 
