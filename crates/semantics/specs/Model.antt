@@ -67,8 +67,8 @@ module _ (Π : Setting) where
 
   -- the agents chosen, one after the other
   pub data Execution : World → List ℕ → World → Type 0 where
-    none : {w : World} → Execution w [] w
-    then : {w w′ w″ : World} {i : ℕ} {is : List ℕ} → Acts w i w′ → Execution w′ is w″ → Execution w (i ∷ is) w″
+    unmoved : {w : World} → Execution w [] w
+    chosen : {w w′ w″ : World} {i : ℕ} {is : List ℕ} → Acts w i w′ → Execution w′ is w″ → Execution w (i ∷ is) w″
 
   -- all agents have executed their plans
   abbrev pub Ended : World → Type 0

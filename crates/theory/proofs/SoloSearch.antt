@@ -5,7 +5,7 @@ use mathlib.Core.Bool.{Bool, true, false, false≢true}
 use mathlib.Core.Logic.{_↔_, ⊎-elim, Iff·trans}
 use mathlib.Core.List.{List, [], _∷_, _++_, map}
 use mathlib.Core.List.{List·Memᴰ}
-use Prim.Native.Nat.{ℕ, zero, suc, _-_, _≤_, _<_}
+use Prim.Native.Nat.{ℕ, _-_, _≤_, _<_}
 use native.Mathlib.Omega.{arith}
 use lib.ListN.{length, getD, take, replicate, length-map, List·getD-append}
 use lib.Seq.{take-append-seam}
@@ -18,7 +18,7 @@ use Rattle.semantics.specs.Task.{check}
 use Rattle.semantics.specs.System.{Lawful, system, waits, Live}
 use Rattle.semantics.specs.Listing.{mem, Reach, here, step}
 use Rattle.semantics.specs.Solo.{soloNext, copies, liveOf, marksOf, Searched, SoloSearch, searchRefusal, soloSearch}
-use Rattle.semantics.specs.Model.{FactSet, _⊆_, apply, Executes, Solution, none, then}
+use Rattle.semantics.specs.Model.{FactSet, _⊆_, apply, Executes, none, then}
 use Rattle.semantics.specs.Demands.{factsOf, setting, Reachable, Completable, Solvable, Distinct, Lists, Exceed}
 use Rattle.semantics.specs.Demands.{Breadth, SearchedRows, SoloSearchAgrees}
 use Rattle.theory.proofs.Lists.{getD-map, lt-or-ge, mem-getD, test-ext}

@@ -12,16 +12,16 @@ use lib.Dec.{eqb}
 use Rattle.semantics.specs.Base.{Answer, refused, gives}
 use Rattle.semantics.specs.Task as Task
 use Rattle.semantics.specs.Task.{check, members}
-use Rattle.semantics.specs.System.{able, result, Lawful, system, waits, Live}
+use Rattle.semantics.specs.System.{able, result, Lawful, system, waits}
 use Rattle.semantics.specs.Listing.{Reach, here, step}
 use Rattle.semantics.specs.Solo.{copies}
 use Rattle.semantics.specs.Model.{_⊆_}
 use Rattle.semantics.specs.Verdict.{Room, localRows, configurationRows, tooShort, unsolvable, notRobust, robust}
 use Rattle.semantics.specs.Verdict.{Finding, sameRow, localCopy, sharedCopy, startRow, moves, configurations, verdictIn}
 use Rattle.semantics.specs.Verdict.{verdict, liveFor, listedIn}
-use Rattle.semantics.specs.Demands.{factsOf, setting, Reachable, Completable, Solvable, Lists, Exceed, Configured}
+use Rattle.semantics.specs.Demands.{factsOf, setting, Reachable, Completable, Solvable, Exceed, Configured}
 use Rattle.semantics.specs.Demands.{at-start, by-move, ListedRows, CopiesExceed, VerdictSearch, Searches}
-use Rattle.theory.proofs.Lists.{lt-or-ge, true-not-false, not-false-true, apart}
+use Rattle.theory.proofs.Lists.{lt-or-ge, true-not-false, apart}
 use Rattle.theory.proofs.Refusals.{refused-gives, gives-inj}
 use Rattle.theory.proofs.Attempts.{able-sub, sub-able}
 use Rattle.theory.proofs.Accepted.{accepted-lawful}

@@ -1,5 +1,5 @@
 -- `report::put_body` meets its contract. Assumes nothing.
-use Rattle.report.proofs.Faults.{answer-line, answer-holds, answer-room, put-refused, put-given}
+use Rattle.report.proofs.Faults.{answer-holds, answer-room, put-refused, put-given}
 use borrow.Author.Needs.{needs}
 use Rattle.report.proofs.put_body.Statement.{statement}
 use Rattle.report.proofs.put_body.Tie as tie

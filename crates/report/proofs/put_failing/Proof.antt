@@ -1,5 +1,5 @@
 -- `report::put_failing` meets its contract. Assumes nothing.
-use Rattle.report.proofs.Faults.{holds-inside, holds-picks, front-long, room-conflict, failing-put}
+use Rattle.report.proofs.Faults.{holds-inside, front-long, room-conflict, failing-put}
 use borrow.Author.Needs.{needs}
 use Rattle.report.proofs.put_failing.Statement.{statement}
 use Rattle.report.proofs.put_failing.Tie as tie

@@ -1,5 +1,5 @@
 -- `report::put_verdict` meets its contract. Assumes nothing.
-use Rattle.report.proofs.Faults.{one-line, verdict-holds, verdict-room, put-unsolvable, put-not-robust}
+use Rattle.report.proofs.Faults.{verdict-holds, verdict-room, put-unsolvable, put-not-robust}
 use Rattle.report.proofs.Faults.{put-robust}
 use borrow.Author.Needs.{needs}
 use Rattle.report.proofs.put_verdict.Statement.{statement}

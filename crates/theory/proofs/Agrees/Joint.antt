@@ -16,7 +16,7 @@ use Rattle.semantics.specs.Solo.{Solo, solves, soloFrom, entry}
 use Rattle.semantics.specs.Run.{Run, Fault, by, isClosed, Replied, Outcome, failure, Replay, rest, runAfter, tally}
 use Rattle.semantics.specs.Run.{pick, start, outcome, replayOn, replay, beginning, planOf, plansOf, endsFit, isSolves}
 use Rattle.semantics.specs.Run.{planRefusal, plansRefusal, jointReplay}
-use Rattle.semantics.specs.Model.{World, Acts, Collides, Execution, none, then, Solution}
+use Rattle.semantics.specs.Model.{World, Acts, Collides, Execution, unmoved, chosen, Solution}
 use Rattle.semantics.specs.Demands.{factsOf, setting, worldOf, worldAt, OutcomeOf, Ends, SolvingPlans}
 use Rattle.semantics.specs.Demands.{JointReplayAgrees}
 use Rattle.theory.proofs.Lists.{apart, and-elim, all-true, true-all, upTo-mem, mem-upTo}
@@ -43,14 +43,14 @@ pub data EndsFrom (t : List ℕ) : World (setting t) → List ℕ → Outcome �
 execution-ends : {t : List ℕ} {w w′ : World (setting t)} {picks : List ℕ} {o : Outcome} {g : ℕ}
     → Execution (setting t) w picks w′ → OutcomeOf t w′ o → w′ .state ≡ factsOf g
     → EndsFrom t w picks o g (length picks)
-execution-ends none s e = stop s e
-execution-ends (then a x) s e = on a (execution-ends x s e)
+execution-ends unmoved s e = stop s e
+execution-ends (chosen a x) s e = on a (execution-ends x s e)
 
 execution-crashes : {t : List ℕ} {w w′ : World (setting t)} {picks : List ℕ} {i g : ℕ}
     → Execution (setting t) w picks w′ → Collides (setting t) w′ i → w′ .state ≡ factsOf g
     → EndsFrom t w (picks ++ (i ∷ [])) (failure Fault.collision) g (length picks)
-execution-crashes none c e = crash c e
-execution-crashes (then a x) c e = on a (execution-crashes x c e)
+execution-crashes unmoved c e = crash c e
+execution-crashes (chosen a x) c e = on a (execution-crashes x c e)
 
 ends-from : (t : List ℕ) (plans : List (List ℕ)) {picks : List ℕ} {o : Outcome} {g k : ℕ}
     → Ends t plans picks o g k → EndsFrom t (worldOf t plans) picks o g k
@@ -77,12 +77,12 @@ Crashed t w picks o g m =
 
 from-cases : {t : List ℕ} {w : World (setting t)} {picks : List ℕ} {o : Outcome} {g m : ℕ}
     → EndsFrom t w picks o g m → Stopped t w picks o g m ⊎ Crashed t w picks o g m
-from-cases (stop {w} s e) = inl (w, none, s, e, refl)
-from-cases (crash {w} {i} c e) = inr ([], i, w, none, c, e, refl, refl, refl)
+from-cases (stop {w} s e) = inl (w, unmoved, s, e, refl)
+from-cases (crash {w} {i} c e) = inr ([], i, w, unmoved, c, e, refl, refl, refl)
 from-cases (on {i} a x) =
     ⊎-elim
-    (λ (w, y, s, e, q). inl (w, then a y, s, e, ap suc q))
-    (λ (is, j, w, y, c, e, p, o, q). inr (i ∷ is, j, w, then a y, c, e, ap (λ (l : List ℕ). i ∷ l) p, o, ap suc q))
+    (λ (w, y, s, e, q). inl (w, chosen a y, s, e, ap suc q))
+    (λ (is, j, w, y, c, e, p, o, q). inr (i ∷ is, j, w, chosen a y, c, e, ap (λ (l : List ℕ). i ∷ l) p, o, ap suc q))
     (from-cases x)
 
 from-ends : (t : List ℕ) (plans : List (List ℕ)) {picks : List ℕ} {o : Outcome} {g k : ℕ}

@@ -10,7 +10,7 @@ use Rattle.semantics.specs.Base.{Answer, refused, gives}
 use Rattle.semantics.specs.System.{system, waits, Choice}
 use Rattle.semantics.specs.Run.{Run, Fault, by as by-fault, Replied, Outcome, success, failure, still-open, isSuccess}
 use Rattle.semantics.specs.Run.{isOpen, passOver, start, pick, outcome, play}
-use Rattle.semantics.specs.Model.{World, Acts, Collides, Execution, none, then, Faultless, Robust}
+use Rattle.semantics.specs.Model.{World, Acts, Collides, Execution, unmoved, chosen, Faultless, Robust}
 use Rattle.semantics.specs.Demands.{setting, worldOf, worldAt, OutcomeOf}
 use Rattle.theory.proofs.Agrees.Joint.{start-going, start-world}
 use Rattle.theory.proofs.Agrees.Outcome.{outcome-says}
@@ -46,8 +46,8 @@ module _ (t : List ℕ) (plans : List (List ℕ)) where
       → w ≡ at r
       → Going (played r is) × (w′ ≡ at (played r is))
   unfolding play
-  execution-plays none r g e = (g, e)
-  execution-plays (then {w′ = w′} {i = i} a x) r g e =
+  execution-plays unmoved r g e = (g, e)
+  execution-plays (chosen {w′ = w′} {i = i} a x) r g e =
       let n = act-picked r i w′ (pick (system t) (waits t) plans r i) (picked t plans r g i)
       (subst (λ (v : World (setting t)). Acts (setting t) v i w′) e a) in
       execution-plays x (passOver r (pick (system t) (waits t) plans r i)) (n .0) (n .1)
@@ -118,8 +118,8 @@ module _ (t : List ℕ) (plans : List (List ℕ)) where
   execution-snoc : {w w′ w″ : World (setting t)} {is : List ℕ} {i : ℕ} → Execution (setting t) w is w′
       → Acts (setting t) w′ i w″
       → Execution (setting t) w (is ++ (i ∷ [])) w″
-  execution-snoc none a = then a none
-  execution-snoc (then b x) a = then b (execution-snoc x a)
+  execution-snoc unmoved a = chosen a unmoved
+  execution-snoc (chosen b x) a = chosen b (execution-snoc x a)
 
   pick-led : (r : Run ℕ) {is : List ℕ} → Going r → Execution (setting t) (worldOf t plans) is (at r)
       → (i : ℕ) (x : Answer (Replied ℕ)) → Picked t plans r i x
@@ -144,7 +144,7 @@ module _ (t : List ℕ) (plans : List (List ℕ)) where
   faultless-runs none-fails js =
       ends (played (start (system t)) js)
       (plays-led (start (system t))
-      (going (start-going t) (subst (Execution (setting t) (worldOf t plans) []) (start-world t plans) none)) js)
+      (going (start-going t) (subst (Execution (setting t) (worldOf t plans) []) (start-world t plans) unmoved)) js)
     where
       by : (r : Run ℕ) (o : Outcome) → OutcomeOf t (at r) o → Faultless (setting t) (at r)
           → not (isOpen o) ≡ isSuccess o
