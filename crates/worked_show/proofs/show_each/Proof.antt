@@ -1,8 +1,8 @@
 use Prim.Native.Nat.{_-_, _≤_}
 use lib.ListN.{length}
 use borrow.Author.Needs.{needs}
-use Rattle.worked.proofs.show_each.Statement.{statement}
-use Rattle.worked.proofs.show_each.Tie as tie
+use Rattle.worked_show.proofs.show_each.Statement.{statement}
+use Rattle.worked_show.proofs.show_each.Tie as tie
 
 abbrev Inv-loop : tie.InvT-loop
 Inv-loop t plans ends picks run₀ k₀ run k = k ≤ length picks

@@ -1,8 +1,8 @@
 use Prim.Native.Nat.{_-_, _≤_}
 use lib.ListN.{length}
 use borrow.Author.Needs.{needs}
-use Rattle.worked.proofs.shorts.Statement.{statement}
-use Rattle.worked.proofs.shorts.Tie as tie
+use Rattle.worked_show.proofs.words.Statement.{statement}
+use Rattle.worked_show.proofs.words.Tie as tie
 
 abbrev Inv-loop : tie.InvT-loop
 Inv-loop xs i₀ i = i ≤ length xs
@@ -13,14 +13,11 @@ abbrev μ-loop : tie.MeasureT-loop
 loop-holds : tie.Need-loop-holds Inv-loop μ-loop
 loop-holds c = search needs
 
-mul-narrow : tie.Need-mul-narrow Inv-loop μ-loop
-mul-narrow c = search needs
+mul-number : tie.Need-mul-number Inv-loop μ-loop
+mul-number c = search needs
 
-shared-slice-read-narrow : tie.Need-shared-slice-read-narrow Inv-loop μ-loop
-shared-slice-read-narrow c = search needs
-
-narrow-requires : tie.Need-narrow-requires Inv-loop μ-loop
-narrow-requires c κs = search needs
+shared-slice-read-number : tie.Need-shared-slice-read-number Inv-loop μ-loop
+shared-slice-read-number c = search needs
 
 number-requires : tie.Need-number-requires Inv-loop μ-loop
 number-requires c κs = search needs
@@ -37,16 +34,15 @@ loop-again c = search needs
 returns : tie.Need-returns Inv-loop μ-loop
 returns c = search needs
 
-pub shorts-spec : {M : Type 1} → statement M
-shorts-spec =
+pub words-spec : {M : Type 1} → statement M
+words-spec =
     tie.close
     (tie.spec
     Inv-loop
     μ-loop
     loop-holds
-    mul-narrow
-    shared-slice-read-narrow
-    narrow-requires
+    mul-number
+    shared-slice-read-number
     number-requires
     add-i
     loop-less

@@ -1,0 +1,340 @@
+// What the operations answer on a law, one line an answer, on standard output.
+use fault::Failing;
+use fault::Fault;
+use fault::Verdict;
+use mask::Shared;
+use run_pick::Answer;
+use run_pick::Closed;
+use run_pick::Outcome;
+use run_pick::Replayed;
+use run_pick::Reply;
+use run_pick::Run;
+use solo_replay::Replayed as Solved;
+use solo_replay::Solo;
+use solo_search::SearchAnswer;
+use step::Decision;
+use step::Stepped;
+use verdict::VerdictAnswer;
+
+// ---- lines
+
+fn say(text: &[u8]) {
+    let _written = io::write_all(1, text);
+}
+
+// A space, then the number.
+fn number(n: u64) {
+    say(b" ");
+    let _written = io::print_decimal(1, n);
+}
+
+fn say_number(text: &[u8], n: u64) {
+    say(text);
+    number(n);
+}
+
+fn end() {
+    say(b"\n");
+}
+
+fn line(text: &[u8], n: u64) {
+    say_number(text, n);
+    end();
+}
+
+fn refused(k: u64) {
+    line(b" refused", k);
+}
+
+// The law's name, and what is asked of it.
+pub fn asked(law: u64, text: &[u8]) {
+    say(b"L");
+    let _written = io::print_decimal(1, law);
+    say(text);
+}
+
+fn words(xs: &[u64]) {
+    let mut i = 0;
+    while i < xs.len() {
+        number(xs[i]);
+        i += 1;
+    }
+}
+
+fn wide(x: u8) -> u64 {
+    x as u64
+}
+
+fn bytes(xs: &[u8]) {
+    let mut i = 0;
+    while i < xs.len() {
+        number(wide(xs[i]));
+        i += 1;
+    }
+}
+
+fn narrow(x: u16) -> u64 {
+    x as u64
+}
+
+fn shorts(xs: &[u16]) {
+    let mut i = 0;
+    while i < xs.len() {
+        number(narrow(xs[i]));
+        i += 1;
+    }
+}
+
+// ---- the operations
+
+pub fn show_check(law: u64, t: &[u64]) {
+    asked(law, b" task check:");
+    line(b"", task::check(t));
+}
+
+fn show_decision(d: Decision) {
+    match d {
+        Decision::Go(next) => line(b" go", mask::to_word(next.0)),
+        Decision::Wait => say(b" wait\n"),
+        Decision::Collision => say(b" collision\n"),
+    }
+}
+
+pub fn show_step(law: u64, t: &[u64], action: u16, g: u64) {
+    asked(law, b" step");
+    number(action as u64);
+    say_number(b" at", g);
+    say(b":");
+    let s = step::step(t, action, Shared(mask::of_word(g)));
+    match s {
+        Stepped::Refused(k) => refused(k),
+        Stepped::Gives(d) => show_decision(d),
+    }
+}
+
+fn show_solved(s: Solo) {
+    match s {
+        Solo::Solves => say(b" solves\n"),
+        Solo::Breaks(k) => line(b" breaks at", k as u64),
+        Solo::Short => say(b" short\n"),
+    }
+}
+
+pub fn show_solo(law: u64, t: &[u64], member: u8, plan: &[u16]) {
+    asked(law, b" solo replay of member");
+    number(member as u64);
+    say(b":");
+    let r = solo_replay::solo_replay(t, member, plan);
+    match r {
+        Solved::Refused(k) => refused(k),
+        Solved::Gives(s) => show_solved(s),
+    }
+}
+
+fn show_found(count: usize, live: bool, table: &[u64], marks: &[u8]) {
+    number(count as u64);
+    if live {
+        say(b" live;")
+    } else {
+        say(b" dead;")
+    }
+    words(table);
+    say(b" marks");
+    bytes(marks);
+    end();
+}
+
+pub fn show_search(law: u64, t: &[u64], member: u8, table: &mut [u64], marks: &mut [u8]) {
+    asked(law, b" solo search of member");
+    number(member as u64);
+    say(b":");
+    let r = solo_search::solo_search(t, member, table, marks);
+    match r {
+        SearchAnswer::Refused(k) => refused(k),
+        SearchAnswer::Found(count, live) => show_found(count, live, table, marks),
+    }
+}
+
+fn show_outcome(outcome: Outcome) {
+    match outcome {
+        Outcome::Success => say(b" success"),
+        Outcome::Failure(f) => match f {
+            Fault::Collision => say(b" collision"),
+            Fault::Deadlock => say(b" deadlock"),
+            Fault::Missed(j) => say_number(b" missed", j as u64),
+        },
+        Outcome::Open => say(b" open"),
+    }
+}
+
+fn show_replay(law: u64, t: &[u64], plans: &[u16], ends: &[u64], picks: &[u8]) {
+    asked(law, b" joint replay:");
+    let r = run_replay::joint_replay(t, plans, ends, picks);
+    match r {
+        Replayed::Refused(k) => refused(k),
+        Replayed::Gives(e) => {
+            let outcome = e.outcome;
+            show_outcome(outcome);
+            let g = e.shared;
+            say_number(b", shared", mask::to_word(g.0));
+            line(b", picks", e.picked as u64);
+        }
+    }
+}
+
+fn show_answer_of(a: Answer) {
+    match a {
+        Answer::Gives(r) => match r {
+            Reply::Go => say(b" go"),
+            Reply::Collision => say(b" collision"),
+        },
+        Answer::Refused(k) => say_number(b" refused", k),
+    }
+}
+
+// Of the places, those of two members.
+fn show_run(run: Run) {
+    let g = run.shared;
+    say_number(b" shared", mask::to_word(g.0));
+    let p = run.places;
+    say_number(b", places", p[0]);
+    number(p[1]);
+    let c = run.closed;
+    match c {
+        Closed::NotYet => {}
+        Closed::By(_) => say(b", collided"),
+    }
+    end();
+}
+
+// The picks one after the other, each on the run as the last one left it.
+fn show_each(t: &[u64], plans: &[u16], ends: &[u64], first: Run, picks: &[u8]) -> Run {
+    let mut run = first;
+    let mut k = 0;
+    while k < picks.len() {
+        let p = run_dispatch::once(t, plans, ends, run, picks[k]);
+        let a = p.answer;
+        show_answer_of(a);
+        run = p.run;
+        k += 1;
+    }
+    run
+}
+
+// The dispatcher from the start, pick by pick.
+fn show_picks(law: u64, t: &[u64], plans: &[u16], ends: &[u64], picks: &[u8]) {
+    let s = run_dispatch::start(t);
+    let first = s.run;
+    asked(law, b" dispatcher:");
+    let last = show_each(t, plans, ends, first, picks);
+    say(b";");
+    show_run(last);
+}
+
+// The dispatcher from the start, the list of picks at once.
+fn show_list(law: u64, t: &[u64], plans: &[u16], ends: &[u64], picks: &[u8]) {
+    let s = run_dispatch::start(t);
+    let first = s.run;
+    asked(law, b" dispatcher, the list:");
+    let p = run_dispatch::play(t, plans, ends, first, picks);
+    if p.refusal != 0 {
+        refused(p.refusal);
+        return;
+    }
+    let played = p.run;
+    show_run(played);
+}
+
+// The same picks by joint replay and by the dispatcher.
+pub fn show_runs(law: u64, t: &[u64], plans: &[u16], ends: &[u64], picks: &[u8]) {
+    show_replay(law, t, plans, ends, picks);
+    show_picks(law, t, plans, ends, picks);
+    show_list(law, t, plans, ends, picks);
+}
+
+// A pick at the start, where fact 0 holds.
+pub fn show_pick(law: u64, t: &[u64], plans: &[u16], ends: &[u64], member: u8) {
+    asked(law, b" pick of member");
+    number(member as u64);
+    say(b" at the start:");
+    let start = Run {
+        shared: Shared(mask::of_word(1)),
+        places: [0; 8],
+        closed: Closed::NotYet,
+    };
+    let p = run_replay::pick(t, plans, ends, start, member);
+    let answer = p.answer;
+    match answer {
+        Answer::Refused(k) => refused(k),
+        Answer::Gives(r) => match r {
+            Reply::Collision => say(b" collision\n"),
+            Reply::Go => {
+                let after = p.run;
+                let g = after.shared;
+                line(b" go", mask::to_word(g.0));
+            }
+        },
+    }
+}
+
+// The kind of a fault, its member, the picks done before it.
+fn show_failing(f: Failing) {
+    let fault = f.fault;
+    let done = f.picked as u64;
+    match fault {
+        Fault::Collision => say_number(b" collision", done),
+        Fault::Deadlock => say_number(b" deadlock", done),
+        Fault::Missed(i) => {
+            say_number(b" missed", i as u64);
+            say_number(b" after", done);
+        }
+    }
+}
+
+// The kind and number of a verdict.
+fn show_given(v: Verdict) {
+    match v {
+        Verdict::Unsolvable(i) => say_number(b" unsolvable", i as u64),
+        Verdict::NotRobust(f) => show_failing(f),
+        Verdict::Robust(count) => say_number(b" robust", count as u64),
+    }
+}
+
+fn show_answer(v: VerdictAnswer) {
+    match v {
+        VerdictAnswer::Refused(k) => say_number(b" refused", k),
+        VerdictAnswer::Gives(g) => show_given(g),
+    }
+}
+
+fn show_conflict(plans: &[u16], ends: &[u64], picks: &[u8]) {
+    say(b"; plans");
+    shorts(plans);
+    say(b" ends");
+    words(ends);
+    say(b" picks");
+    bytes(picks);
+    end();
+}
+
+// The verdict with these two tables, and the first entries of the conflict slices.
+pub fn show_verdict(t: &[u64], local: &mut [u64], confs: &mut [u64]) {
+    let mut marks = [7; 48];
+    let mut trail = [7; 96];
+    let mut plans = [7; 96];
+    let mut ends = [7; 8];
+    let mut picks = [7; 48];
+    say(b" verdict:");
+    let v = verdict::verdict(
+        t,
+        local,
+        &mut marks,
+        confs,
+        &mut trail,
+        &mut plans,
+        &mut ends,
+        &mut picks,
+    );
+    show_answer(v);
+    show_conflict(&plans[0..6], &ends[0..2], &picks[0..4]);
+}
