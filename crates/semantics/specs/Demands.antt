@@ -79,8 +79,8 @@ pub record StepAgrees (t : List ℕ) (a g : ℕ) : Type 0 where
       ↔ ((setting t .waitfor a ⊆ factsOf g) × (setting t .pre a ⊆ factsOf g)
       × (factsOf s ≡ apply (setting t) a (factsOf g)))
   pub waits : (step t a g ≡ gives Decision.wait) ↔ ¬ (setting t .waitfor a ⊆ factsOf g)
-  pub collides : (step t a g ≡ gives Decision.collision) ↔
-      ((setting t .waitfor a ⊆ factsOf g) × ¬ (setting t .pre a ⊆ factsOf g))
+  pub collides : (step t a g ≡ gives Decision.collision)
+      ↔ ((setting t .waitfor a ⊆ factsOf g) × ¬ (setting t .pre a ⊆ factsOf g))
 
 pub record SoloReplayAgrees (t : List ℕ) (i : ℕ) (plan : List ℕ) : Type 0 where
   pub solves : (soloReplay t i plan ≡ gives Solo.solves) ↔ Solution (setting t) i plan
@@ -272,8 +272,8 @@ ShownIn t room f =
 -- answers, and a fault that a listed configuration shows.
 pub record Demand3Answer (t : List ℕ) (before after : Slices) (answer : Answer (Verdict Failing)) : Type 0 where
   pub robust : Choice (system t) → (v : Verdict Failing) → answer ≡ gives v
-      → ((count : ℕ) × (v ≡ Verdict.robust count)) ↔
-      (finishedRuns (system t) (waits t) ≡ successes (system t) (waits t))
+      → ((count : ℕ) × (v ≡ Verdict.robust count))
+      ↔ (finishedRuns (system t) (waits t) ≡ successes (system t) (waits t))
   pub robustSetting : ((j : ℕ) → j < members t → Solvable t j) → (v : Verdict Failing) → answer ≡ gives v
       → ((count : ℕ) × (v ≡ Verdict.robust count)) ↔ Robust (setting t)
   pub notRobust : (told : Failing) → answer ≡ gives (notRobust told)

@@ -65,17 +65,16 @@ headFits t = between 1 (facts t) 64 && between 1 (members t) 8 && leb (actions t
 -- member i's goal row
 unfoldable pub goalRow : List ℕ → ℕ → ℕ
 goalRow t i =
-    (3 if not
-    (eqb (word t (1 + i) 0) i && eqb (word t (1 + i) 2) 0 && eqb (word t (1 + i) 3) 0 && eqb (word t (1 + i) 4) 0))
+    (3 if not (eqb (word t (1 + i) 0) i
+    && eqb (word t (1 + i) 2) 0 && eqb (word t (1 + i) 3) 0 && eqb (word t (1 + i) 4) 0))
     else (4 if not (below (facts t) (goal t i)))
 
 -- action a's row
 unfoldable pub actionRow : List ℕ → ℕ → ℕ
 actionRow t a =
     (5 if not (ltb (owner t a) (members t)))
-    else (4 if not
-    (below (facts t) (pre t a) && below (facts t) (wait t a) && below (facts t) (add t a)
-    && below (facts t) (del t a)))
+    else (4 if not (below (facts t) (pre t a) && below (facts t) (wait t a)
+    && below (facts t) (add t a) && below (facts t) (del t a)))
     else (6 if not (within (wait t a) (pre t a)))
 
 -- the task check: the first refusal, 0 where the task is accepted
