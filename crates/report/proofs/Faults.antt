@@ -73,9 +73,6 @@ module _ (f : Failing) (n : ℕ) (plans ends picks : List ℕ)
   pub holds-inside : Inside n plans ends
   holds-inside = holds .0
 
-  pub holds-picks : conflictPicks (faultOf (f .fault)) (f .picked) ≤ length picks
-  holds-picks = holds .1
-
   module _ (count : ℕ) (is : count ≡ conflictPicks (faultOf (f .fault)) (f .picked)) where
     pub front-long : count ≡ length (take count picks)
     front-long = sym (length-take-le count picks (omega (arith, holds .1)))
@@ -95,9 +92,6 @@ module _ (f : Failing) (n : ℕ) (plans ends picks : List ℕ)
 
 module _ (n : ℕ) (plans ends picks out : List ℕ) (at : ℕ) where
   module _ (v : Verdict) (room : Room out (at + mostLine) (conflictOf (gives (verdictOf v)) n plans ends picks)) where
-    pub one-line : at + mostLine ≤ length out
-    one-line = omega (arith, room .fits)
-
     module _ (f : Failing) (e : v ≡ NotRobust f) where
       pub verdict-holds : Holds (gives (verdictOf v)) n plans ends picks
           → Holds (gives (notRobust (failingOf f))) n plans ends picks
@@ -123,9 +117,6 @@ module _ (n : ℕ) (plans ends picks out : List ℕ) (at : ℕ) where
     put-robust c e l = rw e l
 
   module _ (a : VerdictAnswer) (room : Room out (at + mostLine) (conflictOf (answerOf a) n plans ends picks)) where
-    pub answer-line : at + mostLine ≤ length out
-    answer-line = omega (arith, room .fits)
-
     module _ (v : Verdict) (e : a ≡ Gives v) where
       pub answer-holds : Holds (answerOf a) n plans ends picks → Holds (gives (verdictOf v)) n plans ends picks
       answer-holds h = subst (λ (x : VerdictAnswer). Holds (answerOf x) n plans ends picks) e h
