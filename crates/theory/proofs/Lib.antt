@@ -11,6 +11,7 @@ pub mod Laid
 pub mod Listing
 pub mod Lists
 pub mod Live
+pub mod Loops
 pub mod Lonely
 pub mod Masks
 pub mod Picks
