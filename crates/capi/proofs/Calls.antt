@@ -22,16 +22,16 @@ use Rattle.step.specs.declared.Stepped.{Stepped}
 use Rattle.step.specs.declared.Stepped.the-variants as stepped
 use Rattle.solo_replay.specs.Value as soloValue
 use Rattle.solo_replay.specs.declared.Solo.{Solo}
-use Rattle.solo_replay.specs.declared.Replayed as soloReplayed
-use Rattle.solo_replay.specs.declared.Replayed.the-variants as solved
+use Rattle.solo_replay.specs.declared.SoloAnswer.{SoloAnswer}
+use Rattle.solo_replay.specs.declared.SoloAnswer.the-variants as solved
 use Rattle.solo_search.specs.Value.{searchedOf}
 use Rattle.solo_search.specs.declared.SearchAnswer.{SearchAnswer}
 use Rattle.solo_search.specs.declared.SearchAnswer.the-variants as search′
 use Rattle.run_pick.specs.Value as picksValue
 use Rattle.run_pick.specs.Value.{runOf, replyOf, outcomeOf, PickMeans}
 use Rattle.run_pick.specs.declared.Replay.{Replay}
-use Rattle.run_pick.specs.declared.Replayed.{Replayed}
-use Rattle.run_pick.specs.declared.Replayed.the-variants as replayed
+use Rattle.run_pick.specs.declared.ReplayAnswer.{ReplayAnswer}
+use Rattle.run_pick.specs.declared.ReplayAnswer.the-variants as replayed
 use Rattle.run_pick.specs.declared.Reply.{Reply}
 use Rattle.run_pick.specs.declared.Run.{Run}
 use Rattle.run_pick.specs.declared.Picked.{Picked}
@@ -121,18 +121,18 @@ module _ (t plan out : List ℕ) (member : ℕ) where
   pub solo-short : length out < 2 → SoloCall (call 14 out)
   solo-short h = short-call numbers.solo out (soloReplay t member plan) (ltb (length out) 2) (lt-ltb (length out) 2 h)
 
-  module _ (room : 2 ≤ length out) (s : soloReplayed.Replayed)
-      (is : soloValue.replayedOf s ≡ soloReplay t member plan) where
+  module _ (room : 2 ≤ length out) (s : SoloAnswer)
+      (is : soloValue.answerOf s ≡ soloReplay t member plan) where
     pub solo-refused : (k : ℕ) → s ≡ solved.Refused k → SoloCall (call k out)
     solo-refused k so =
         refused-call numbers.solo out (soloReplay t member plan) (ltb (length out) 2) k (long out 2 room)
-        (sym is ∙ ap soloValue.replayedOf so)
+        (sym is ∙ ap soloValue.answerOf so)
 
     pub solo-given : (d : Solo) (ns now : List ℕ) → s ≡ solved.Gives d → ns ≡ numbers.solo (soloValue.soloOf d)
         → now ≡ front ns out → SoloCall (call 0 now)
     solo-given d ns now so e put =
         given-call numbers.solo out (soloReplay t member plan) (ltb (length out) 2) (soloValue.soloOf d) now
-        (long out 2 room) (sym is ∙ ap soloValue.replayedOf so)
+        (long out 2 room) (sym is ∙ ap soloValue.answerOf so)
         (put ∙ ap (λ (x : List ℕ). front x out) e)
 
 -- ---- joint replay
@@ -145,7 +145,7 @@ module _ (t plans ends picks out : List ℕ) where
   joint-short h =
       short-call numbers.replay out (jointReplay t plans ends picks) (ltb (length out) 4) (lt-ltb (length out) 4 h)
 
-  module _ (room : 4 ≤ length out) (s : Replayed) (is : picksValue.replayedOf s ≡ jointReplay t plans ends picks) where
+  module _ (room : 4 ≤ length out) (s : ReplayAnswer) (is : picksValue.replayedOf s ≡ jointReplay t plans ends picks) where
     pub joint-refused : (k : ℕ) → s ≡ replayed.Refused k → JointCall (call k out)
     joint-refused k so =
         refused-call numbers.replay out (jointReplay t plans ends picks) (ltb (length out) 4) k (long out 4 room)
@@ -199,7 +199,7 @@ module _ (t table marks out : List ℕ) (member : ℕ) where
         (sym (ap (λ (x : SoloSearch). x .answer) is)
         ∙ ap (λ (x : SearchAnswer). searchedOf x table′ marks′ .answer) so))
 
-    pub search-given : (count : ℕ) (live : Bool) (now : List ℕ) → s ≡ search′.Found count live
+    pub search-given : (count : ℕ) (live : Bool) (now : List ℕ) → s ≡ search′.Gives count live
         → now ≡ front (count ∷ boolByte live ∷ []) out → SearchCall table′ marks′ (call 0 now)
     search-given count live now so put =
         slices (call 0 now)
@@ -291,7 +291,7 @@ module _ (text words out : List ℕ) where
         (refused-call numbers.records out (readText text words .answer) (ltb (length out) 1) k (long out 1 room)
         (sym (ap (λ (x : Reading). x .answer) is) ∙ ap (λ (x : TextRead). reading x words′ .answer) so))
 
-    pub read-given : (n : ℕ) (now : List ℕ) → s ≡ textRead.Records n → now ≡ front (n ∷ []) out
+    pub read-given : (n : ℕ) (now : List ℕ) → s ≡ textRead.Gives n → now ≡ front (n ∷ []) out
         → ReadCall words′ (call 0 now)
     read-given n now so put =
         slice′ (call 0 now)

@@ -17,8 +17,8 @@ ghost use Rattle.capi_numbers.specs.Runs.{runWords, runIn, after};
 ghost use Rattle.capi.specs.Play.{StartCall, PlayCall};
 use mask::Shared;
 use run_pick::Answer;
-use run_pick::Replayed;
-use solo_replay::Replayed as Solved;
+use run_pick::ReplayAnswer;
+use solo_replay::SoloAnswer;
 use solo_search::SearchAnswer;
 use step::Stepped;
 use text::TextRead;
@@ -80,8 +80,8 @@ pub extern "C" fn lawcheck_solo_replay(t: &[u64], member: u8, plan: &[u16], out:
     }
     let s = solo_replay::solo_replay(t, member, plan);
     match s {
-        Solved::Refused(k) => k,
-        Solved::Gives(r) => {
+        SoloAnswer::Refused(k) => k,
+        SoloAnswer::Gives(r) => {
             let numbers = capi_numbers::solo_numbers(r);
             capi_numbers::put(out, &numbers);
             0
@@ -118,7 +118,7 @@ pub extern "C" fn lawcheck_solo_search(
     let s = solo_search::solo_search(t, member, table, marks);
     match s {
         SearchAnswer::Refused(k) => k,
-        SearchAnswer::Found(count, live) => {
+        SearchAnswer::Gives(count, live) => {
             let numbers = [count as u64, live as u64];
             capi_numbers::put(out, &numbers);
             0
@@ -146,8 +146,8 @@ pub extern "C" fn lawcheck_joint_replay(
     }
     let s = run_replay::joint_replay(t, plans, ends, picks);
     match s {
-        Replayed::Refused(k) => k,
-        Replayed::Gives(r) => {
+        ReplayAnswer::Refused(k) => k,
+        ReplayAnswer::Gives(r) => {
             let o = r.outcome;
             let g = r.shared;
             let numbers = capi_numbers::replay_numbers(o, r.picked as u64, mask::to_word(g.0));
@@ -289,7 +289,7 @@ pub extern "C" fn lawcheck_read(text: &[u8], words: &mut [u64], out: &mut [u64])
     let s = text::read(text, words);
     match s {
         TextRead::Refused(k) => k,
-        TextRead::Records(n) => {
+        TextRead::Gives(n) => {
             let numbers = [n as u64];
             capi_numbers::put(out, &numbers);
             0

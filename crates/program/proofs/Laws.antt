@@ -28,7 +28,7 @@ use Rattle.theory.proofs.Accepted.{accepted, accepted-lawful}
 use Rattle.theory.proofs.Verdict.{Found, found}
 use Rattle.text.specs.Post.{mostWords, reading}
 use Rattle.text.specs.declared.TextRead.{TextRead}
-use Rattle.text.specs.declared.TextRead.the-variants.{Records, Refused}
+use Rattle.text.specs.declared.TextRead.the-variants.{Refused, Gives}
 use Rattle.run_plans.proofs.Laws.{part}
 use Rattle.report.specs.File.{word, header, line, file}
 use Rattle.report.specs.Inner.Put.{mostFile, Holds}
@@ -268,10 +268,10 @@ pub record Words (text words out : List ℕ) (n : ℕ) : Type 0 where
 
 module _ (text words out : List ℕ) (long : mostWords ≤ length words) (r : TextRead)
     (e : reading r out ≡ readText text words) where
-  pub words-of : (n : ℕ) → r ≡ Records n → Words text words out n
+  pub words-of : (n : ℕ) → r ≡ Gives n → Words text words out n
   unfolding readText readRecords textWords isText
   words-of n f =
-      let g : reading (Records n) out ≡ readText text words =
+      let g : reading (Gives n) out ≡ readText text words =
       subst (λ (q : TextRead). reading q out ≡ readText text words) f e in
       let bad = 15 if not (isText rowWidth mostRecords text) in
       let (x, h) = unrefused words (14 if ltb (length words) mostWords) _ g in
@@ -292,8 +292,8 @@ module _ (text words out : List ℕ) (long : mostWords ≤ length words) (r : Te
             (rowWidth * n) same);
       }
     where
-      unrefused : (ws : List ℕ) (a : ℕ) (q : Reading) → reading (Records n) out ≡ (a leaves refusedWith ws otherwise q)
-          → (a ≡ 0) × (reading (Records n) out ≡ q)
+      unrefused : (ws : List ℕ) (a : ℕ) (q : Reading) → reading (Gives n) out ≡ (a leaves refusedWith ws otherwise q)
+          → (a ≡ 0) × (reading (Gives n) out ≡ q)
       unrefused ws (suc a) q g = absurd (refused-gives (sym (ap (λ (q : Reading). q .answer) g)))
       unrefused ws zero q g = (refl, g)
 

@@ -81,7 +81,7 @@ fn of_text(text: &[u8], words: &mut [u64], out: &mut [u8]) -> usize
     ensures { λ r. ⌜ AtFront (Prints (now (text .entry))) (now (out .entry)) (now (out .exit)) r ⌝ }
 {
     match text::read(text, words) {
-        TextRead::Records(n) => of_task(&words[..5 * n], out),
+        TextRead::Gives(n) => of_task(&words[..5 * n], out),
         TextRead::Refused(k) => report::put_refusal(out, k),
     }
 }

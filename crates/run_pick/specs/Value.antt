@@ -19,8 +19,8 @@ use Rattle.run_pick.specs.declared.Picked.{Picked}
 use Rattle.run_pick.specs.declared.Outcome.{Outcome}
 use Rattle.run_pick.specs.declared.Outcome.the-variants as outcome
 use Rattle.run_pick.specs.declared.Replay.{Replay}
-use Rattle.run_pick.specs.declared.Replayed.{Replayed}
-use Rattle.run_pick.specs.declared.Replayed.the-variants as replayed
+use Rattle.run_pick.specs.declared.ReplayAnswer.{ReplayAnswer}
+use Rattle.run_pick.specs.declared.ReplayAnswer.the-variants as replayed
 
 abbrev pub closedOf : Closed → Paper.Closed
 closedOf closed.NotYet = Paper.not-yet
@@ -60,6 +60,6 @@ outcomeOf outcome.Open = Paper.still-open
 abbrev pub replayOf : Replay → Paper.Replay ℕ
 replayOf r = record { outcome = outcomeOf (r .outcome); shared = sharedNumber (r .shared); picked = r .picked }
 
-abbrev pub replayedOf : Replayed → Base.Answer (Paper.Replay ℕ)
+abbrev pub replayedOf : ReplayAnswer → Base.Answer (Paper.Replay ℕ)
 replayedOf (replayed.Refused k) = refused k
 replayedOf (replayed.Gives r) = gives (replayOf r)

@@ -65,7 +65,7 @@ pub struct Replay {
     pub picked: usize,
 }
 
-pub enum Replayed {
+pub enum ReplayAnswer {
     Refused(u64),
     Gives(Replay),
 }
@@ -278,7 +278,7 @@ fn count(done: usize, r: Reply) -> usize
 
 // The picks from the start, each meeting the run as the last one left it; the first bad pick is
 // refused.
-pub fn replay_all(t: &[u64], plans: &[u16], ends: &[u64], picks: &[u8]) -> Replayed
+pub fn replay_all(t: &[u64], plans: &[u16], ends: &[u64], picks: &[u8]) -> ReplayAnswer
     requires { ⌜ plansRefusal (now t) (now plans) (now ends) ≡ 0 ⌝ }
     ensures { λ r. ⌜ replayedOf r
         ≡ replayIn (now (t .entry)) (now (plans .entry)) (now (ends .entry))
@@ -294,7 +294,7 @@ pub fn replay_all(t: &[u64], plans: &[u16], ends: &[u64], picks: &[u8]) -> Repla
         let a = p.answer;
         match a {
             Answer::Refused(e) => {
-                return Replayed::Refused(e);
+                return ReplayAnswer::Refused(e);
             }
             Answer::Gives(r) => {
                 done = count(done, r);
@@ -304,7 +304,7 @@ pub fn replay_all(t: &[u64], plans: &[u16], ends: &[u64], picks: &[u8]) -> Repla
     }
     let o = outcome_of(t, plans, ends, run);
     let s = run.shared;
-    Replayed::Gives(Replay {
+    ReplayAnswer::Gives(Replay {
         outcome: o,
         shared: s,
         picked: done,

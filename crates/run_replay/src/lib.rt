@@ -3,18 +3,18 @@ ghost use mathlib.Core.Path.{_≡_};
 ghost use Rattle.semantics.specs.Run.{jointReplay, runRefusal, pickOn};
 ghost use Rattle.run_pick.specs.Value.{runOf, replayedOf, PickMeans};
 use run_pick::Picked;
-use run_pick::Replayed;
+use run_pick::ReplayAnswer;
 use run_pick::Run;
 
 // Joint replay, for every input.
-pub fn joint_replay(t: &[u64], plans: &[u16], ends: &[u64], picks: &[u8]) -> Replayed
+pub fn joint_replay(t: &[u64], plans: &[u16], ends: &[u64], picks: &[u8]) -> ReplayAnswer
     ensures { λ r. ⌜ replayedOf r
         ≡ jointReplay (now (t .entry)) (now (plans .entry)) (now (ends .entry))
         (now (picks .entry)) ⌝ }
 {
     let e = run_plans::refusal(t, plans, ends);
     if e != 0 {
-        return Replayed::Refused(e);
+        return ReplayAnswer::Refused(e);
     }
     run_pick::replay_all(t, plans, ends, picks)
 }

@@ -6,7 +6,7 @@ ghost use Rattle.semantics.specs.Task.{check, members, actions, initial};
 ghost use Rattle.semantics.specs.System.{system};
 ghost use Rattle.semantics.specs.Solo.{entry, soloFrom, soloReplay};
 ghost use Rattle.mask.specs.Number.{localNumber};
-ghost use Rattle.solo_replay.specs.Value.{soloOf, replayedOf};
+ghost use Rattle.solo_replay.specs.Value.{soloOf, answerOf};
 use mask::Local;
 use step::LocalAttempt;
 
@@ -19,7 +19,7 @@ pub enum Solo {
 }
 
 // The operation's answer.
-pub enum Replayed {
+pub enum SoloAnswer {
     Refused(u64),
     Gives(Solo),
 }
@@ -101,20 +101,20 @@ pub fn replay(t: &[u64], i: usize, plan: &[u16]) -> Solo
 }
 
 // The operation, for every input.
-pub fn solo_replay(t: &[u64], member: u8, plan: &[u16]) -> Replayed
-    ensures { λ r. ⌜ replayedOf r ≡ soloReplay (now (t .entry)) member (now (plan .entry)) ⌝ }
+pub fn solo_replay(t: &[u64], member: u8, plan: &[u16]) -> SoloAnswer
+    ensures { λ r. ⌜ answerOf r ≡ soloReplay (now (t .entry)) member (now (plan .entry)) ⌝ }
 {
     let e = task::check(t);
     if e != 0 {
-        return Replayed::Refused(e);
+        return SoloAnswer::Refused(e);
     }
     let i = member as usize;
     if task::members(t) <= i {
-        return Replayed::Refused(8);
+        return SoloAnswer::Refused(8);
     }
     let p = plan_refusal(t, i, plan);
     if p != 0 {
-        return Replayed::Refused(p);
+        return SoloAnswer::Refused(p);
     }
-    Replayed::Gives(replay(t, i, plan))
+    SoloAnswer::Gives(replay(t, i, plan))
 }

@@ -20,7 +20,7 @@ use Rattle.text.proofs.Lists.{records-line, records-byte, wordsOf, word
 use Rattle.text.proofs.Steps.{digit}
 use Rattle.text.proofs.Scanning.{accepts}
 use Rattle.text.specs.Post.{mostWords, reading}
-use Rattle.text.specs.declared.TextRead.the-variants.{Records}
+use Rattle.text.specs.declared.TextRead.the-variants.{Gives}
 use Rattle.text.specs.Inner.Written.{digitsIn, digits, row, written, unended, isWord}
 
 -- ---- digits
@@ -249,7 +249,7 @@ pub reads-words : (w n : ℕ) (refusal : List ℕ → ℕ) (text ws out : List �
     → readRecords w n refusal text out ≡ record { answer = gives r; words = padded (length out) ws }
 reads-words w n refusal text ws out r h l c =
     sym (accepts w n refusal text out l r (h .good) (ap refusal (h .words) ∙ c) (sym (h .count)))
-    ∙ ap (λ (xs : List ℕ). reading (Records r) (padded (length out) xs)) (h .words)
+    ∙ ap (λ (xs : List ℕ). reading (Gives r) (padded (length out) xs)) (h .words)
 
 -- the text reader gives a task's words back
 pub reads-task : (text ws out : List ℕ) (r : ℕ) → ReadsBack rowWidth mostRecords text ws r → mostWords ≤ length out

@@ -21,14 +21,14 @@ use Rattle.text.specs.Post.{mostWords, Found, scanMeans, reading}
 use Rattle.text.specs.declared.Byte.{Byte}
 use Rattle.text.specs.declared.Field.the-variants.{Empty}
 use Rattle.text.specs.declared.Place.{Place}
-use Rattle.text.specs.declared.Next.{Next}
-use Rattle.text.specs.declared.Next.the-variants.{On, Word, Bad}
+use Rattle.text.specs.declared.Turn.{Turn}
+use Rattle.text.specs.declared.Turn.the-variants.{On, Word, Bad}
 use Rattle.text.specs.declared.Last.{Last}
 use Rattle.text.specs.declared.Last.the-variants.{Records, Word as LastWord, Bad as BadEnd}
 use Rattle.text.specs.declared.Scan.{Scan}
 use Rattle.text.specs.declared.Scan.the-variants.{Records as Read, Bad as NoText}
 use Rattle.text.specs.declared.TextRead.{TextRead}
-use Rattle.text.specs.declared.TextRead.the-variants.{Records as Gives, Refused}
+use Rattle.text.specs.declared.TextRead.the-variants.{Refused, Gives}
 
 -- the first i bytes are read, and their words are the first count of the slice
 pub record Scanning (w n : ℕ) (text words₀ words : List ℕ) (place : Place) (count i : ℕ) : Type 0 where
@@ -63,7 +63,7 @@ module _ {w n : ℕ} {text words₀ words : List ℕ} {place : Place} {count i :
   }
 
   -- the next byte, and what it leads to
-  module _ (byte : Byte) (r : Next) (more : i < length text) (sorted : byteMeans (getD text i 0) byte)
+  module _ (byte : Byte) (r : Turn) (more : i < length text) (sorted : byteMeans (getD text i 0) byte)
       (led : r ≡ stepOf w n place byte) where
     turned : After w n text (take count words) (drop (i + 1) text) r
     turned =

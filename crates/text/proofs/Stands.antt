@@ -27,8 +27,8 @@ use Rattle.text.specs.declared.Byte.the-variants.{Digit, Comma, Cr, Lf, 
 use Rattle.text.specs.declared.Field.{Field}
 use Rattle.text.specs.declared.Field.the-variants.{Empty, Number, Ended}
 use Rattle.text.specs.declared.Place.{Place}
-use Rattle.text.specs.declared.Next.{Next}
-use Rattle.text.specs.declared.Next.the-variants.{On, Word, Bad}
+use Rattle.text.specs.declared.Turn.{Turn}
+use Rattle.text.specs.declared.Turn.the-variants.{On, Word, Bad}
 use Rattle.text.specs.declared.Last.{Last}
 use Rattle.text.specs.declared.Last.the-variants.{Records, Word as LastWord, Bad as BadEnd}
 
@@ -105,7 +105,7 @@ stands-first w limit text some = record {
 }
 
 -- what a byte leads to
-abbrev pub After : ℕ → ℕ → List ℕ → List ℕ → List ℕ → Next → Type 0
+abbrev pub After : ℕ → ℕ → List ℕ → List ℕ → List ℕ → Turn → Type 0
 After w limit text ws t (On q) = Stands w limit text ws (q .records) (q .fields) (q .field) t
 After w limit text ws t (Word v q) =
     (length ws < w * limit) × Stands w limit text (ws ++ (v ∷ [])) (q .records) (q .fields) (q .field) t

@@ -18,7 +18,7 @@ use Rattle.text.specs.declared.Byte.{Byte}
 use Rattle.text.specs.declared.Byte.the-variants.{Digit, Comma, Cr, Lf, Other}
 use Rattle.text.specs.declared.Field.the-variants.{Empty, Number, Ended}
 use Rattle.text.specs.declared.Place.{Place}
-use Rattle.text.specs.declared.Next.the-variants.{On, Word, Bad}
+use Rattle.text.specs.declared.Turn.the-variants.{On, Word, Bad}
 use Rattle.text.specs.declared.Last.the-variants.{Records, Word as LastWord, Bad as BadEnd}
 
 -- ---- bytes

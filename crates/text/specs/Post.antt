@@ -10,7 +10,7 @@ use Rattle.semantics.specs.Text.{mostRecords, records, isText, textWords, Readi
 use Rattle.text.specs.declared.Scan.{Scan}
 use Rattle.text.specs.declared.Scan.the-variants.{Records, Bad}
 use Rattle.text.specs.declared.TextRead.{TextRead}
-use Rattle.text.specs.declared.TextRead.the-variants.{Records as Gives, Refused}
+use Rattle.text.specs.declared.TextRead.the-variants.{Refused, Gives}
 
 -- the words of a task's longest text
 abbrev pub mostWords : ℕ

@@ -44,7 +44,7 @@ pub struct Place {
 }
 
 // What a byte leads to: a place; a word that is read, and a place; or the text is none.
-pub enum Next {
+pub enum Turn {
     On(Place),
     Word(u64, Place),
     Bad,
@@ -66,7 +66,7 @@ pub enum Scan {
 
 // The answer: the number of records, or a refusal.
 pub enum TextRead {
-    Records(usize),
+    Gives(usize),
     Refused(u64),
 }
 
@@ -87,7 +87,7 @@ pub fn sort(b: u8) -> Byte
 }
 
 // The record reader: what the byte b leads to from the place p.
-pub fn step(p: Place, b: Byte, width: usize, most: usize) -> Next
+pub fn step(p: Place, b: Byte, width: usize, most: usize) -> Turn
     requires { ⌜ InReach width most p ⌝ }
     ensures { λ r. ⌜ r ≡ stepOf width most p b ⌝ }
 {
@@ -98,37 +98,37 @@ pub fn step(p: Place, b: Byte, width: usize, most: usize) -> Next
         Field::Empty => match b {
             Byte::Digit(d) => {
                 if records < most {
-                    Next::On(Place {
+                    Turn::On(Place {
                         records,
                         fields,
                         field: Field::Number(d),
                     })
                 } else {
-                    Next::Bad
+                    Turn::Bad
                 }
             }
-            _ => Next::Bad,
+            _ => Turn::Bad,
         },
         Field::Number(v) => match b {
             Byte::Digit(d) => {
                 if v == 0 {
-                    return Next::Bad;
+                    return Turn::Bad;
                 }
                 if v <= (LARGEST - d) / 10 {
                     let value = 10 * v + d;
-                    Next::On(Place {
+                    Turn::On(Place {
                         records,
                         fields,
                         field: Field::Number(value),
                     })
                 } else {
-                    Next::Bad
+                    Turn::Bad
                 }
             }
             Byte::Comma => {
                 let next_field = fields + 1;
                 if next_field < width {
-                    Next::Word(
+                    Turn::Word(
                         v,
                         Place {
                             records,
@@ -137,13 +137,13 @@ pub fn step(p: Place, b: Byte, width: usize, most: usize) -> Next
                         },
                     )
                 } else {
-                    Next::Bad
+                    Turn::Bad
                 }
             }
             Byte::Cr => {
                 let next_field = fields + 1;
                 if next_field == width {
-                    Next::Word(
+                    Turn::Word(
                         v,
                         Place {
                             records,
@@ -152,22 +152,22 @@ pub fn step(p: Place, b: Byte, width: usize, most: usize) -> Next
                         },
                     )
                 } else {
-                    Next::Bad
+                    Turn::Bad
                 }
             }
-            Byte::Lf => Next::Bad,
-            Byte::Other => Next::Bad,
+            Byte::Lf => Turn::Bad,
+            Byte::Other => Turn::Bad,
         },
         Field::Ended => match b {
             Byte::Lf => {
                 let next_record = records + 1;
-                Next::On(Place {
+                Turn::On(Place {
                     records: next_record,
                     fields: 0,
                     field: Field::Empty,
                 })
             }
-            _ => Next::Bad,
+            _ => Turn::Bad,
         },
     }
 }
@@ -226,15 +226,15 @@ pub fn scan_text(text: &[u8], words: &mut [u64], width: usize, most: usize) -> S
         let next = step(place, sort(text[i]), width, most);
         i += 1;
         match next {
-            Next::On(p) => {
+            Turn::On(p) => {
                 place = p;
             }
-            Next::Word(v, p) => {
+            Turn::Word(v, p) => {
                 words[count] = v;
                 count += 1;
                 place = p;
             }
-            Next::Bad => {
+            Turn::Bad => {
                 return Scan::Bad;
             }
         }
@@ -275,7 +275,7 @@ pub fn read(text: &[u8], words: &mut [u64]) -> TextRead
             let refusal = task::check(&words[..end]);
             if refusal == 0 {
                 rows::clear(words, end);
-                TextRead::Records(n)
+                TextRead::Gives(n)
             } else {
                 refuse(words, refusal)
             }

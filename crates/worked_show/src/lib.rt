@@ -6,11 +6,11 @@ use mask::Shared;
 use run_pick::Answer;
 use run_pick::Closed;
 use run_pick::Outcome;
-use run_pick::Replayed;
+use run_pick::ReplayAnswer;
 use run_pick::Reply;
 use run_pick::Run;
-use solo_replay::Replayed as Solved;
 use solo_replay::Solo;
+use solo_replay::SoloAnswer;
 use solo_search::SearchAnswer;
 use step::Decision;
 use step::Stepped;
@@ -126,8 +126,8 @@ pub fn show_solo(law: u64, t: &[u64], member: u8, plan: &[u16]) {
     say(b":");
     let r = solo_replay::solo_replay(t, member, plan);
     match r {
-        Solved::Refused(k) => refused(k),
-        Solved::Gives(s) => show_solved(s),
+        SoloAnswer::Refused(k) => refused(k),
+        SoloAnswer::Gives(s) => show_solved(s),
     }
 }
 
@@ -151,7 +151,7 @@ pub fn show_search(law: u64, t: &[u64], member: u8, table: &mut [u64], marks: &m
     let r = solo_search::solo_search(t, member, table, marks);
     match r {
         SearchAnswer::Refused(k) => refused(k),
-        SearchAnswer::Found(count, live) => show_found(count, live, table, marks),
+        SearchAnswer::Gives(count, live) => show_found(count, live, table, marks),
     }
 }
 
@@ -171,8 +171,8 @@ fn show_replay(law: u64, t: &[u64], plans: &[u16], ends: &[u64], picks: &[u8]) {
     asked(law, b" joint replay:");
     let r = run_replay::joint_replay(t, plans, ends, picks);
     match r {
-        Replayed::Refused(k) => refused(k),
-        Replayed::Gives(e) => {
+        ReplayAnswer::Refused(k) => refused(k),
+        ReplayAnswer::Gives(e) => {
             let outcome = e.outcome;
             show_outcome(outcome);
             let g = e.shared;

@@ -8,8 +8,8 @@ use Rattle.text.specs.declared.Byte.the-variants.{Digit, Comma, Cr, Lf, 
 use Rattle.text.specs.declared.Field.{Field}
 use Rattle.text.specs.declared.Field.the-variants.{Empty, Number, Ended}
 use Rattle.text.specs.declared.Place.{Place}
-use Rattle.text.specs.declared.Next.{Next}
-use Rattle.text.specs.declared.Next.the-variants.{On, Word, Bad}
+use Rattle.text.specs.declared.Turn.{Turn}
+use Rattle.text.specs.declared.Turn.the-variants.{On, Word, Bad}
 use Rattle.text.specs.declared.Last.{Last}
 use Rattle.text.specs.declared.Last.the-variants.{Records, Word as LastWord, Bad as BadEnd}
 
@@ -24,7 +24,7 @@ pub record InReach (w n : ℕ) (p : Place) : Type 0 where
   pub ended-within : p .field ≡ Ended → p .records < n
 
 -- a field's first byte
-abbrev pub first : ℕ → ℕ → ℕ → Byte → Next
+abbrev pub first : ℕ → ℕ → ℕ → Byte → Turn
 first n k f (Digit d) = cond (ltb k n) (On (at k f (Number d))) Bad
 first n k f Comma = Bad
 first n k f Cr = Bad
@@ -32,7 +32,7 @@ first n k f Lf = Bad
 first n k f Other = Bad
 
 -- a byte after digits that write v: no digit after a leading zero, and none with which the number is 2^64 or more
-abbrev pub later : ℕ → ℕ → ℕ → ℕ → Byte → Next
+abbrev pub later : ℕ → ℕ → ℕ → ℕ → Byte → Turn
 later w k f v (Digit d) =
     cond (eqb v 0) Bad (cond (leb v ((2 ^ 64 - 1 - d) / 10)) (On (at k f (Number (10 * v + d)))) Bad)
 later w k f v Comma = cond (ltb (f + 1) w) (Word v (at k (f + 1) Empty)) Bad
@@ -41,19 +41,19 @@ later w k f v Lf = Bad
 later w k f v Other = Bad
 
 -- the byte after a record's CR
-abbrev pub ended : ℕ → Byte → Next
+abbrev pub ended : ℕ → Byte → Turn
 ended k (Digit d) = Bad
 ended k Comma = Bad
 ended k Cr = Bad
 ended k Lf = On (at (k + 1) 0 Empty)
 ended k Other = Bad
 
-abbrev pub stepIn : ℕ → ℕ → ℕ → ℕ → Field → Byte → Next
+abbrev pub stepIn : ℕ → ℕ → ℕ → ℕ → Field → Byte → Turn
 stepIn w n k f Empty b = first n k f b
 stepIn w n k f (Number v) b = later w k f v b
 stepIn w n k f Ended b = ended k b
 
-abbrev pub stepOf : ℕ → ℕ → Place → Byte → Next
+abbrev pub stepOf : ℕ → ℕ → Place → Byte → Turn
 stepOf w n p b = stepIn w n (p .records) (p .fields) (p .field) b
 
 -- the text's end: after a whole record, or in a record's last field
