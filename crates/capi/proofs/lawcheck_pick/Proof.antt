@@ -6,12 +6,14 @@ use Rattle.capi.proofs.lawcheck_pick.Tie as tie
 
 returns : tie.Need-returns
 returns c =
-    let a = c .before .before .before .before .before .before .args in
+    let s : tie.Start = search in
+    let a = s .args in
     pick-run (a .t .now) (a .plans .now) (a .ends .now) (a .run .now) (a .out .now) (a .member) (c .if1 .taken)
 
 returns-2 : tie.Need-returns-2
 returns-2 c =
-    let a = c .before .before .before .before .before .before .before .args in
+    let s : tie.Start = search in
+    let a = s .args in
     pick-short (a .t .now) (a .plans .now) (a .ends .now) (a .run .now) (a .out .now) (a .member) (c .if2 .taken)
 
 run-of-requires : tie.Need-run-of-requires
@@ -37,11 +39,12 @@ same-length c = search needs
 
 returns-3 : tie.Need-returns-3
 returns-3 c =
-    let p = c .before .before .before .before in
+    let p : tie.After-once = search in
     let r = p .before in
     let e₂ = r .before .before in
     let e₁ = e₂ .before in
-    let a = e₁ .before .before .before .before .before .before .args in
+    let s : tie.Start = search in
+    let a = s .args in
     pick-refused (a .t .now) (a .plans .now) (a .ends .now) (a .run .now) (a .out .now) (a .member)
     (e₁ .if1 .left) (e₂ .if2 .left) (r .run-of .result) (r .run-of .ensures) (p .once .result) (p .once .ensures)
     (c .before .a .given .0 .0) (c .before .a .given .1)
@@ -54,14 +57,15 @@ same-length-3 c = search needs
 
 returns-4 : tie.Need-returns-4
 returns-4 c =
-    let d = c .before .before .before .before in
-    let n = d .before .before .before in
+    let d : tie.After-done = search in
+    let n : tie.After-reply-number = search in
     let m = n .before .before in
-    let p = m .before .before .before in
+    let p : tie.After-once = search in
     let r = p .before in
     let e₂ = r .before .before in
     let e₁ = e₂ .before in
-    let a = e₁ .before .before .before .before .before .before .args in
+    let s : tie.Start = search in
+    let a = s .args in
     pick-given (a .t .now) (a .plans .now) (a .ends .now) (a .run .now) (a .out .now) (a .member)
     (e₁ .if1 .left) (e₂ .if2 .left) (r .run-of .result) (r .run-of .ensures) (p .once .result) (p .once .ensures)
     (m .a2 .given .0 .0) (m .a2 .given .1) (n .reply-number .result) (n .reply-number .ensures)

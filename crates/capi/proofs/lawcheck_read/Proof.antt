@@ -6,7 +6,8 @@ use Rattle.capi.proofs.lawcheck_read.Tie as tie
 
 returns : tie.Need-returns
 returns c =
-    let a = c .before .before .before .before .args in
+    let s : tie.Start = search in
+    let a = s .args in
     read-short (a .text .now) (a .words .now) (a .out .now) (c .if1 .taken)
 
 read-requires : tie.Need-read-requires
@@ -29,9 +30,10 @@ same-length c = search needs
 
 returns-2 : tie.Need-returns-2
 returns-2 c =
-    let f = c .before .before .before .before .before in
+    let f : tie.After-read = search in
     let e = f .before .before in
-    let a = e .before .before .before .before .args in
+    let s : tie.Start = search in
+    let a = s .args in
     read-refused (a .text .now) (a .words .now) (a .out .now) (e .if1 .left) (f .read .result) (f .read .last .1 .0)
     (f .read .ensures) (c .before .s .given .0 .0) (c .before .s .given .1)
 
@@ -43,10 +45,12 @@ same-length-3 c = search needs
 
 returns-3 : tie.Need-returns-3
 returns-3 c =
-    let f = c .before .before .before .before .before .before .before .before .before .before in
+    let s2 : tie.After-s2 = search in
+    let f : tie.After-read = search in
     let e = f .before .before in
-    let a = e .before .before .before .before .args in
-    let m = c .before .before .before .before .before .before .s2 in
+    let s : tie.Start = search in
+    let a = s .args in
+    let m = s2 .s2 in
     read-given (a .text .now) (a .words .now) (a .out .now) (e .if1 .left) (f .read .result) (f .read .last .1 .0)
     (f .read .ensures) (m .given .0 .0) (c .before .before .put .last .0) (m .given .1)
     (c .before .before .put .ensures)

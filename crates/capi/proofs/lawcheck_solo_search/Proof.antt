@@ -6,7 +6,8 @@ use Rattle.capi.proofs.lawcheck_solo_search.Tie as tie
 
 returns : tie.Need-returns
 returns c =
-    let a = c .before .before .before .before .before .args in
+    let s : tie.Start = search in
+    let a = s .args in
     search-short (a .t .now) (a .table .now) (a .marks .now) (a .out .now) (a .member) (c .if1 .taken)
 
 solo-search-requires : tie.Need-solo-search-requires
@@ -35,9 +36,10 @@ same-length-2 c = search needs
 
 returns-2 : tie.Need-returns-2
 returns-2 c =
-    let f = c .before .before .before .before .before .before .before in
-    let e = f .before .before .before in
-    let a = e .before .before .before .before .before .args in
+    let f : tie.After-solo-search = search in
+    let e : tie.Else1 = search in
+    let s : tie.Start = search in
+    let a = s .args in
     search-refused (a .t .now) (a .table .now) (a .marks .now) (a .out .now) (a .member) (e .if1 .left)
     (f .solo-search .result) (f .solo-search .last .1 .1 .0) (f .solo-search .last .1 .1 .1 .0)
     (f .solo-search .ensures) (c .before .s .given .0 .0) (c .before .s .given .1)
@@ -53,10 +55,12 @@ same-length-5 c = search needs
 
 returns-3 : tie.Need-returns-3
 returns-3 c =
-    let f = c .before .before .before .before .before .before .before .before .before .before .before .before in
-    let e = f .before .before .before in
-    let a = e .before .before .before .before .before .args in
-    let m = c .before .before .before .before .before .before .s2 in
+    let s2 : tie.After-s2 = search in
+    let f : tie.After-solo-search = search in
+    let e : tie.Else1 = search in
+    let s : tie.Start = search in
+    let a = s .args in
+    let m = s2 .s2 in
     search-given (a .t .now) (a .table .now) (a .marks .now) (a .out .now) (a .member) (e .if1 .left)
     (f .solo-search .result) (f .solo-search .last .1 .1 .0) (f .solo-search .last .1 .1 .1 .0)
     (f .solo-search .ensures) (m .given .0 .0) (m .given .0 .1 .0) (c .before .before .put .last .0) (m .given .1)

@@ -30,9 +30,10 @@ same-length-2 c = search needs
 
 returns : tie.Need-returns
 returns c =
-    let p = c .before .before .before .before .before .before .before in
-    let w = p .before .before .before in
-    let a = w .before .before .before .args in (
+    let p : tie.After-put = search in
+    let w : tie.After-words-of = search in
+    let s : tie.Start = search in
+    let a = s .args in (
       ap (call 0) (c .before .before .put2 .ensures),
       p .put .ensures
           ∙ ap (λ (x : List ℕ). front x (a .words .now)) (w .words-of .ensures),

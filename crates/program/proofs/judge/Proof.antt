@@ -10,6 +10,9 @@ use Rattle.program.proofs.Laws.{holds, reports, file-fits}
 use Rattle.program.proofs.judge.Statement.{statement}
 use Rattle.program.proofs.judge.Tie as tie
 
+abbrev start-of : tie.After-members → tie.Start
+start-of m = m .before .before .before .before .before .before .before .before .before .before
+
 -- the slices before and after the verdict
 abbrev before-of : tie.Start → Slices
 before-of s =
@@ -31,9 +34,9 @@ verdict-requires c κs = search needs
 
 put-file-requires : tie.Need-put-file-requires
 put-file-requires c κs =
-    let v = c .before .before .before .before .before .before .before .before .before .before .before .before .before .before .before .before .before .before in
-    let m = v .before .before .before .before .before .before .before .before in
-    let s = m .before .before .before .before .before .before .before .before .before .before in
+    let v : tie.After-verdict = search in
+    let m : tie.After-members = search in
+    let s = start-of m in
     let t = s .args .t .now in
     let h = holds t (before-of s) (after-of v) (answerOf (v .verdict .result)) (v .verdict .ensures .0) in
     let k = v .verdict .kept in
@@ -71,9 +74,9 @@ same-length-8 c = search needs
 returns : tie.Need-returns
 returns c =
     let f = c .before .before in
-    let v = f .before .before .before .before .before .before .before .before .before .before .before .before .before .before .before .before .before .before .before in
-    let m = v .before .before .before .before .before .before .before .before in
-    let s = m .before .before .before .before .before .before .before .before .before .before in
+    let v : tie.After-verdict = search in
+    let m : tie.After-members = search in
+    let s = start-of m in
     reports (s .args .t .now) (before-of s) (after-of v) (answerOf (v .verdict .result)) (s .pre .1 .0)
     (v .verdict .ensures .0) (m .members .result) (m .members .ensures)
     (s .args .out .now) (f .put-file .last .0) (f .put-file .result) (f .put-file .ensures)

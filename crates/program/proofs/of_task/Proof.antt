@@ -9,13 +9,14 @@ use Rattle.program.proofs.of_task.Statement.{statement}
 use Rattle.program.proofs.of_task.Tie as tie
 
 some : (m : tie.After-members) → 1 ≤ m .members .result
-some m = let s =
-    m .before .before .before in
+some m =
+    let s : tie.Start = search in
     omega (arith, m .members .ensures, accepted (s .args .t .now) (s .pre .0) .some-members)
 
 few : (m : tie.After-members) → m .members .result ≤ 8
-few m = let s =
-    m .before .before .before in omega (arith, m .members .ensures, accepted (s .args .t .now) (s .pre .0) .few-members)
+few m =
+    let s : tie.Start = search in
+    omega (arith, m .members .ensures, accepted (s .args .t .now) (s .pre .0) .few-members)
 
 rows : (m : tie.After-members) → m .members .result * (localWords / m .members .result) ≤ localWords
 rows m = rows-most (m .members .result)
@@ -52,48 +53,44 @@ slice-aggregate-judge-3 : tie.Need-slice-aggregate-judge-3
 slice-aggregate-judge-3 c = search needs
 
 mul-trail : tie.Need-mul-trail
-mul-trail c = let m = c .before .before .before in omega (arith, most m)
+mul-trail c = let m : tie.After-members = search in omega (arith, most m)
 
 array-borrow-prefix-trail : tie.Need-array-borrow-prefix-trail
-array-borrow-prefix-trail c = let m = c .before .before .before in omega (arith, most m)
+array-borrow-prefix-trail c = let m : tie.After-members = search in omega (arith, most m)
 
 slice-aggregate-judge-4 : tie.Need-slice-aggregate-judge-4
-slice-aggregate-judge-4 c = let m =
-    c .before .before .before .before in
+slice-aggregate-judge-4 c = let m : tie.After-members = search in
     front-length (2 * (configurationWords / (m .members .result + 1))) 8192 (omega (arith, most m))
 
 add-plans : tie.Need-add-plans
-add-plans c = let m = c .before .before .before .before in omega (arith, rows m, most m)
+add-plans c = let m : tie.After-members = search in omega (arith, rows m, most m)
 
 array-borrow-prefix-plans : tie.Need-array-borrow-prefix-plans
-array-borrow-prefix-plans c = let m = c .before .before .before .before in omega (arith, rows m, most m)
+array-borrow-prefix-plans c = let m : tie.After-members = search in omega (arith, rows m, most m)
 
 slice-aggregate-judge-5 : tie.Need-slice-aggregate-judge-5
-slice-aggregate-judge-5 c = let m =
-    c .before .before .before .before .before in
+slice-aggregate-judge-5 c = let m : tie.After-members = search in
     front-length
     (configurationWords / (m .members .result + 1) + m .members .result * (localWords / m .members .result)) 8192
     (omega (arith, most m, rows m))
 
 array-borrow-prefix-ends : tie.Need-array-borrow-prefix-ends
-array-borrow-prefix-ends c = let m = c .before .before .before .before .before in omega (arith, few m)
+array-borrow-prefix-ends c = let m : tie.After-members = search in omega (arith, few m)
 
 slice-aggregate-judge-6 : tie.Need-slice-aggregate-judge-6
-slice-aggregate-judge-6 c = let m =
-    c .before .before .before .before .before .before in front-length (m .members .result) 8 (few m)
+slice-aggregate-judge-6 c = let m : tie.After-members = search in front-length (m .members .result) 8 (few m)
 
 array-borrow-prefix-picks : tie.Need-array-borrow-prefix-picks
-array-borrow-prefix-picks c = let m = c .before .before .before .before .before .before in omega (arith, most m)
+array-borrow-prefix-picks c = let m : tie.After-members = search in omega (arith, most m)
 
 slice-aggregate-judge-7 : tie.Need-slice-aggregate-judge-7
-slice-aggregate-judge-7 c = let m =
-    c .before .before .before .before .before .before .before in
+slice-aggregate-judge-7 c = let m : tie.After-members = search in
     front-length (configurationWords / (m .members .result + 1)) 4096 (most m)
 
 judge-requires : tie.Need-judge-requires
 judge-requires c κs =
-    let m = c .before .before .before .before .before .before .before .before in
-    let s = m .before .before .before in
+    let m : tie.After-members = search in
+    let s : tie.Start = search in
     (s .pre .0, (lends (s .args .t .now) (s .pre .0) (m .members .result) (m .members .ensures), s .pre .1))
 
 same-length : tie.Need-same-length

@@ -15,13 +15,17 @@ use Rattle.program.proofs.of_text.Tie as tie
 long : (s : tie.Start) → length (s .args .words .now) ≡ mostWords
 long s = ap length (s .pre .0) ∙ length-replicate {A = ℕ} mostWords 0
 
+abbrev read-of : tie.After-n → tie.After-read
+read-of c = c .before .before .before .before
+
+abbrev start-of : tie.After-n → tie.Start
+start-of c = read-of c .before .before .before .before .before
+
 words : (c : tie.After-n)
-    → Words (c .before .before .before .before .before .before .before .before .before .args .text .now)
-    (c .before .before .before .before .before .before .before .before .before .args .words .now)
-    (c .before .before .before .before .read .last .1 .0) (c .n .given .0 .0)
+    → Words (start-of c .args .text .now) (start-of c .args .words .now) (read-of c .read .last .1 .0) (c .n .given .0 .0)
 words c =
-    let d = c .before .before .before .before in
-    let s = d .before .before .before .before .before in
+    let s = start-of c in
+    let d = read-of c in
     words-of (s .args .text .now) (s .args .words .now) (d .read .last .1 .0) (omega (arith, long s)) (d .read .result)
     (d .read .ensures) (c .n .given .0 .0) (c .n .given .1)
 
@@ -33,11 +37,13 @@ enum-known-n c = search needs
 
 mul-of-task : tie.Need-mul-of-task
 mul-of-task c =
+    let read : tie.After-read = search in
+    let s : tie.Start = search in
     omega (
       arith,
       words (c .before) .room,
-      c .before .before .before .before .before .read .kept .1 .0,
-      long (c .before .before .before .before .before .before .before .before .before .before),
+      read .read .kept .1 .0,
+      long (s),
     )
 
 slice-reshare-prefix-of-task : tie.Need-slice-reshare-prefix-of-task
@@ -45,14 +51,18 @@ slice-reshare-prefix-of-task c = words (c .before) .room
 
 slice-aggregate-of-task : tie.Need-slice-aggregate-of-task
 slice-aggregate-of-task c =
+    let read : tie.After-read = search in
     sym (length-take-le (rowWidth * c .before .before .n .given .0 .0)
-    (c .before .before .before .before .before .before .read .last .1 .0) (words (c .before .before) .room))
+    (read .read .last .1 .0) (words (c .before .before) .room))
 
 of-task-requires : tie.Need-of-task-requires
-of-task-requires c κs = let w =
-    words (c .before .before .before) in (
+of-task-requires c κs =
+    let n : tie.After-n = search in
+    let s : tie.Start = search in
+    let w =
+    words (n) in (
       ap check (w .words-read) ∙ w .task,
-      c .before .before .before .before .before .before .before .before .before .before .before .before .pre .1,
+      s .pre .1,
     )
 
 enum-known-k : tie.Need-enum-known-k
@@ -70,9 +80,9 @@ same-length-2 c = search needs
 returns : tie.Need-returns
 returns c =
     let f = c .before .before in
-    let n = f .before .before .before .before in
-    let d = n .before .before .before .before in
-    let s = d .before .before .before .before .before in
+    let n : tie.After-n = search in
+    let d : tie.After-read = search in
+    let s : tie.Start = search in
     prints-task (s .args .text .now) (s .args .words .now) (d .read .last .1 .0) (s .pre .0) (d .read .result)
     (d .read .ensures) (n .n .given .0 .0) (words n) (f .of-task .ensures)
 
@@ -85,9 +95,9 @@ same-length-4 c = search needs
 returns-2 : tie.Need-returns-2
 returns-2 c =
     let f = c .before .before in
-    let k = f .before .before .before in
-    let d = k .before .before .before .before in
-    let s = d .before .before .before .before .before in
+    let k : tie.After-k = search in
+    let d : tie.After-read = search in
+    let s : tie.Start = search in
     prints-refusal (s .args .text .now) (s .args .words .now) (d .read .last .1 .0) (s .pre .0) (d .read .result)
     (d .read .ensures) (k .k .given .0 .0) (k .k .given .1) (f .put-refusal .ensures)
 

@@ -27,7 +27,9 @@ shared-slice-read-put-byte : tie.Need-shared-slice-read-put-byte Inv-loop μ-loo
 shared-slice-read-put-byte c = search needs
 
 put-byte-requires : tie.Need-put-byte-requires Inv-loop μ-loop
-put-byte-requires c κs = stage-room (c .before .before .before .loop .inv) _ refl (omega arith)
+put-byte-requires c κs =
+    let loop : tie.At-loop Inv-loop μ-loop = search in
+    stage-room (loop .loop .inv) _ refl (omega arith)
 
 add-i : tie.Need-add-i Inv-loop μ-loop
 add-i c = search needs
@@ -37,8 +39,9 @@ loop-less c = search needs
 
 loop-again : tie.Need-loop-again Inv-loop μ-loop
 loop-again c =
+    let loop : tie.At-loop Inv-loop μ-loop = search in
     let f = c .before .before in
-    stage-onward (f .before .before .before .before .loop .inv) _ refl (omega arith) _ _ (f .put-byte .ensures)
+    stage-onward (loop .loop .inv) _ refl (omega arith) _ _ (f .put-byte .ensures)
     (f .put-byte .kept .0)
 
 same-length : tie.Need-same-length Inv-loop μ-loop
@@ -46,7 +49,8 @@ same-length c = c .before .loop .inv .kept
 
 returns : tie.Need-returns Inv-loop μ-loop
 returns c =
-    let a = c .before .before .before .before .args in
+    let s : tie.Start Inv-loop μ-loop = search in
+    let a = s .args in
     subst (λ (l : List ℕ). Laid l (a .out .now) (a .at) (c .before .loop .out) (c .before .loop .next))
     (spread-bytes (a .bytes .now))
     (stage-end (c .before .loop .inv) (omega arith))

@@ -29,7 +29,8 @@ wide-requires c κs = search needs
 
 put-line-requires : tie.Need-put-line-requires Inv-loop μ-loop
 put-line-requires c κs =
-    stage-room (c .before .before .before .before .loop .inv) (c .wide .result) (c .wide .ensures) (omega arith)
+    let loop : tie.At-loop Inv-loop μ-loop = search in
+    stage-room (loop .loop .inv) (c .wide .result) (c .wide .ensures) (omega arith)
 
 add-i : tie.Need-add-i Inv-loop μ-loop
 add-i c = search needs
@@ -39,9 +40,10 @@ loop-less c = search needs
 
 loop-again : tie.Need-loop-again Inv-loop μ-loop
 loop-again c =
+    let loop : tie.At-loop Inv-loop μ-loop = search in
     let f = c .before .before in
     let w = f .before in
-    stage-onward (w .before .before .before .before .loop .inv) (w .wide .result) (w .wide .ensures) (omega arith) _ _
+    stage-onward (loop .loop .inv) (w .wide .result) (w .wide .ensures) (omega arith) _ _
     (f .put-line .ensures) (f .put-line .kept .0)
 
 same-length : tie.Need-same-length Inv-loop μ-loop

@@ -10,7 +10,7 @@ use Rattle.report.proofs.put_conflict.Tie as tie
 put-plans-requires : tie.Need-put-plans-requires
 unfolding word numbersFrom
 put-plans-requires c κs =
-    let s = c .before .before .before .before .before in
+    let s : tie.Start = search in
     let a = s .args in (
       s .pre .0,
       room-first (plansLines (a .n) (a .plans .now) (a .ends .now)) (lines (word "pick") (a .picks .now)) (s .pre .1),
@@ -22,8 +22,9 @@ slice-aggregate-put-picks c = search needs
 put-picks-requires : tie.Need-put-picks-requires
 unfolding word numbersFrom
 put-picks-requires c κs =
-    let f = c .before .before .before .before in
-    room-then (f .before .before .before .before .before .before .pre .1) (f .put-plans .ensures)
+    let s : tie.Start = search in
+    let f : tie.After-put-plans = search in
+    room-then (s .pre .1) (f .put-plans .ensures)
     (f .put-plans .kept .0)
 
 same-length : tie.Need-same-length
@@ -32,8 +33,9 @@ same-length c = search needs
 returns : tie.Need-returns
 unfolding word numbersFrom
 returns c =
+    let put-plans : tie.After-put-plans = search in
     let g = c .before .before in
-    laid-append (g .before .before .before .before .before .put-plans .ensures) (g .put-picks .ensures)
+    laid-append (put-plans .put-plans .ensures) (g .put-picks .ensures)
 
 pub put-conflict-spec : {M : Type 1} → statement M
 put-conflict-spec =

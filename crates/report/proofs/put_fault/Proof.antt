@@ -44,8 +44,8 @@ returns : tie.Need-returns
 unfolding word numbersFrom
 returns c =
     let p = c .before .before in
-    let k = p .before .before .before in
-    let s = k .before .before .before in
+    let k : tie.After-enum-told = search in
+    let s : tie.Start = search in
     line-collision (s .args .f) (s .args .out .now) (s .args .at) (p .put-line .last .0) (p .put-line .result)
     (k .enum-told .given .1) (search needs) (p .put-line .ensures)
 
@@ -56,8 +56,8 @@ returns-2 : tie.Need-returns-2
 unfolding word numbersFrom
 returns-2 c =
     let p = c .before .before in
-    let k = p .before .before .before in
-    let s = k .before .before .before in
+    let k : tie.After-enum-told2 = search in
+    let s : tie.Start = search in
     line-deadlock (s .args .f) (s .args .out .now) (s .args .at) (p .put-line2 .last .0) (p .put-line2 .result)
     (k .enum-told2 .given .1) (search needs) (p .put-line2 .ensures)
 
@@ -68,8 +68,8 @@ returns-3 : tie.Need-returns-3
 unfolding word numbersFrom
 returns-3 c =
     let p = c .before .before in
-    let k = p .before .before .before in
-    let s = k .before .before .before .before in
+    let k : tie.After-known-told = search in
+    let s : tie.Start = search in
     line-missed (s .args .f) (s .args .out .now) (s .args .at) (p .put-line3 .last .0) (p .put-line3 .result)
     (k .before .fault .given .0 .0) (k .before .fault .given .1) (search needs) (p .put-line3 .ensures)
 

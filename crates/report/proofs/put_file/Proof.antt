@@ -16,10 +16,12 @@ put-header-requires c κs = omega arith
 put-body-requires : tie.Need-put-body-requires
 unfolding word numbersFrom
 put-body-requires c κs =
-    let s = c .before .before .before .before .before .before .before .before .before in
+    let shared-slice-known : tie.After-shared-slice-known = search in
+    let shared-slice-known3 : tie.After-shared-slice-known3 = search in
+    let s : tie.Start = search in
     let a = s .args in
-    let plans = c .before .before .before .before .before .before .before .shared-slice-known .given in
-    let picks = c .before .before .before .before .before .shared-slice-known3 .given in (
+    let plans = shared-slice-known .shared-slice-known .given in
+    let picks = shared-slice-known3 .shared-slice-known3 .given in (
       s .pre .0,
       omega (
         arith,
@@ -33,8 +35,9 @@ same-length c = search needs
 
 returns : tie.Need-returns
 returns c =
+    let put-header : tie.After-put-header = search in
     let g = c .before .before in
-    laid-append (g .before .before .before .before .put-header .ensures) (g .put-body .ensures)
+    laid-append (put-header .put-header .ensures) (g .put-body .ensures)
 
 pub put-file-spec : {M : Type 1} → statement M
 put-file-spec = tie.close (tie.spec put-header-requires put-body-requires same-length returns)

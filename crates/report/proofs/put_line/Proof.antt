@@ -7,24 +7,25 @@ use Rattle.report.proofs.put_line.Statement.{statement}
 use Rattle.report.proofs.put_line.Tie as tie
 
 put-requires : tie.Need-put-requires
-put-requires c κs = let a = c .before .before .before .args in omega (arith, line-length (a .word .now) (a .v))
+put-requires c κs = let s : tie.Start = search in
+    let a = s .args in omega (arith, line-length (a .word .now) (a .v))
 
 put-byte-requires : tie.Need-put-byte-requires
-put-byte-requires c κs = let a =
-    c .before .before .before .before .before .before .before .args in omega (arith, line-length (a .word .now) (a .v))
+put-byte-requires c κs = let s : tie.Start = search in
+    let a = s .args in omega (arith, line-length (a .word .now) (a .v))
 
 put-number-requires : tie.Need-put-number-requires
-put-number-requires c κs = let a =
-    c .before .before .before .before .before .before .before .before .before .before .before .args in
+put-number-requires c κs = let s : tie.Start = search in
+    let a = s .args in
     omega (arith, line-length (a .word .now) (a .v))
 
 put-byte-requires-2 : tie.Need-put-byte-requires-2
-put-byte-requires-2 c κs = let a =
-    c .before .before .before .before .before .before .before .before .before .before .before .before .before .before .before .args in omega (arith, line-length (a .word .now) (a .v))
+put-byte-requires-2 c κs = let s : tie.Start = search in
+    let a = s .args in omega (arith, line-length (a .word .now) (a .v))
 
 put-byte-requires-3 : tie.Need-put-byte-requires-3
-put-byte-requires-3 c κs = let a =
-    c .before .before .before .before .before .before .before .before .before .before .before .before .before .before .before .before .before .before .before .args in omega (arith, line-length (a .word .now) (a .v))
+put-byte-requires-3 c κs = let s : tie.Start = search in
+    let a = s .args in omega (arith, line-length (a .word .now) (a .v))
 
 same-length : tie.Need-same-length
 same-length c = search needs
@@ -32,10 +33,10 @@ same-length c = search needs
 returns : tie.Need-returns
 returns c =
     let lf = c .before .before in
-    let cr = lf .before .before .before .before in
-    let number = cr .before .before .before .before in
-    let comma = number .before .before .before .before in
-    let word = comma .before .before .before .before in
+    let cr : tie.After-put-byte2 = search in
+    let number : tie.After-put-number = search in
+    let comma : tie.After-put-byte = search in
+    let word : tie.After-put = search in
     laid-append (word .put .ensures)
     (laid-append (comma .put-byte .ensures)
     (laid-append (number .put-number .ensures) (laid-append (cr .put-byte2 .ensures) (lf .put-byte3 .ensures))))

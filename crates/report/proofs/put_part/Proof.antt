@@ -29,7 +29,7 @@ part-put-actions-end c = search needs
 put-actions-requires : tie.Need-put-actions-requires
 unfolding word numbersFrom
 put-actions-requires c κs =
-    let s = c .before .before .before .before .before in
+    let s : tie.Start = search in
     let a = s .args in
     subst (λ (l : List ℕ). Room (a .out .now) (a .at) (lines (word "action") l))
     (sym (part-slice (a .from) (a .to) (a .plans .now) (s .pre .0))) (s .pre .1 .1)
@@ -41,7 +41,7 @@ returns : tie.Need-returns
 unfolding word numbersFrom
 returns c =
     let f = c .before .before in
-    let s = f .before .before .before .before .before .before in
+    let s : tie.Start = search in
     let a = s .args in
     subst (λ (l : List ℕ). Laid (lines (word "action") l) (a .out .now) (a .at)
     (f .put-actions .last .0) (f .put-actions .result))

@@ -19,7 +19,7 @@ slice-aggregate-put-line c = search needs
 put-line-requires : tie.Need-put-line-requires
 unfolding word numbersFrom
 put-line-requires c κs =
-    let s = c .before .before .before .before .before in
+    let s : tie.Start = search in
     let a = s .args in
     room-first (line (word "plan") (a .i)) (lines (word "action") (planOf (a .plans .now) (a .ends .now) (a .i)))
     (s .pre .1 .1)
@@ -35,8 +35,8 @@ unfolding word numbersFrom
 put-part-requires c κs =
     let e = c .end in
     let d = c .before .before .beginning in
-    let f = c .before .before .before .before .before in
-    let s = f .before .before .before .before .before .before in
+    let f : tie.After-put-line = search in
+    let s : tie.Start = search in
     let a = s .args in (
       omega (arith, s .pre .1 .0 .ordered (a .i) (s .pre .0)),
       (
@@ -53,11 +53,13 @@ same-length c = search needs
 returns : tie.Need-returns
 unfolding word numbersFrom
 returns c =
+    let beginning : tie.After-beginning = search in
     let g = c .before .before in
     let e = g .before .end in
-    let d = g .before .before .before .beginning in
-    let f = g .before .before .before .before .before .before in
-    let a = f .before .before .before .before .before .before .args in
+    let d = beginning .beginning in
+    let f : tie.After-put-line = search in
+    let s : tie.Start = search in
+    let a = s .args in
     subst
     (λ (l : List ℕ).
     Laid (line (word "plan") (a .i) ++ lines (word "action") l) (a .out .now) (a .at)

@@ -23,10 +23,11 @@ loop-holds c = search stage-begin
 put-plan-requires : tie.Need-put-plan-requires Inv-loop μ-loop
 put-plan-requires c κs =
     let l = c .before .before in
-    let a = c .before .before .before .before .before .before .args in (
+    let s : tie.Start Inv-loop μ-loop = search in
+    let a = s .args in (
       omega arith,
       (
-        c .before .before .before .before .before .before .pre .0,
+        s .pre .0,
         stage-room (l .loop .inv) (l .loop .i) (sym (upTo-at (a .n) (l .loop .i) (omega arith)))
             (omega (arith, upTo-length (a .n))),
       ),
@@ -40,9 +41,10 @@ loop-less c = omega arith
 
 loop-again : tie.Need-loop-again Inv-loop μ-loop
 loop-again c =
+    let s : tie.Start Inv-loop μ-loop = search in
     let f = c .before .before in
-    let l = f .before .before .before in
-    let n = l .before .before .before .before .args .n in
+    let l : tie.At-loop Inv-loop μ-loop = search in
+    let n = s .args .n in
     stage-onward (l .loop .inv) (l .loop .i) (sym (upTo-at n (l .loop .i) (omega arith)))
     (omega (arith, upTo-length n)) _ _ (f .put-plan .ensures) (f .put-plan .kept .0)
 
@@ -52,7 +54,8 @@ same-length c = c .before .loop .inv .kept
 returns : tie.Need-returns Inv-loop μ-loop
 unfolding plansLines
 returns c =
-    stage-end (c .before .loop .inv) (omega (arith, upTo-length (c .before .before .before .before .before .args .n)))
+    let s : tie.Start Inv-loop μ-loop = search in
+    stage-end (c .before .loop .inv) (omega (arith, upTo-length (s .args .n)))
 
 pub put-plans-spec : {M : Type 1} → statement M
 put-plans-spec =

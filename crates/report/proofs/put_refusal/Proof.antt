@@ -20,8 +20,9 @@ same-length c = search needs
 
 returns : tie.Need-returns
 returns c =
+    let put-header : tie.After-put-header = search in
     let g = c .before .before in
-    laid-append (g .before .before .before .before .put-header .ensures) (g .put-refused .ensures)
+    laid-append (put-header .put-header .ensures) (g .put-refused .ensures)
 
 pub put-refusal-spec : {M : Type 1} → statement M
 put-refusal-spec = tie.close (tie.spec put-header-requires put-refused-requires same-length returns)

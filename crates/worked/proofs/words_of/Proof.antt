@@ -24,7 +24,9 @@ enum-known-scan : tie.Need-enum-known-scan
 enum-known-scan c = search needs
 
 mul-result : tie.Need-mul-result
-mul-result c = omega (arith, held (c .before), c .before .before .before .scan-text .kept .1 .0)
+mul-result c =
+    let scan-text : tie.After-scan-text = search in
+    omega (arith, held (c .before), scan-text .scan-text .kept .1 .0)
 
 enum-told : tie.Need-enum-told
 enum-told c = search needs
