@@ -109,7 +109,9 @@ sameFault (missed i) (missed j) = eqb i j
 
 -- the faults that the listed configurations show, each once, in the order of the list
 abbrev pub shownIn : List ℕ → Room → List Fault
-shownIn t room = addAll sameFault [] (flatten (map (faults (system t) (waits t) (liveFor t room)) (listedIn t room)))
+shownIn t room =
+    let live = liveFor (system t) (localRows t (room .localTable)) in
+    addAll sameFault [] (flatten (map (faults (system t) (waits t) live) (listedIn t room)))
 
 abbrev pub Holds : Claim → Type 0
 Holds (verdictOf t localWords words v) = verdict t (roomFor t localWords words) ≡ v

@@ -266,7 +266,9 @@ pub record Demand3 (t : List ℕ) (room : Room) : Type 0 where
 -- the fault is one that a listed configuration shows
 abbrev pub ShownIn : List ℕ → Room → Fault → Type 0
 ShownIn t room f =
-    (c : List ℕ) × List·Memᴰ c (listedIn t room) × List·Memᴰ f (faults (system t) (waits t) (liveFor t room) c)
+    (c : List ℕ)
+    × List·Memᴰ c (listedIn t room)
+    × List·Memᴰ f (faults (system t) (waits t) (liveFor (system t) (localRows t (room .localTable))) c)
 
 -- The same of a verdict's own answer; and what is told of a conflict is what joint replay of the conflict's slices
 -- answers, and a fault that a listed configuration shows.
@@ -321,7 +323,7 @@ pub record VerdictSearch (t : List ℕ) (room : Room) : Type 0 where
       × ((j : ℕ) → j < i → Solvable t j))
   -- else the configurations are listed, and robust has their number
   pub listed : (v : Finding) → verdict t room ≡ gives v → ((j : ℕ) → j < members t → Solvable t j)
-      → ListedRows t (liveFor t room) (listedIn t room)
+      → ListedRows t (liveFor (system t) (localRows t (room .localTable))) (listedIn t room)
   pub counted : (n : ℕ) → verdict t room ≡ gives (robust n) → n ≡ length (listedIn t room)
 
 abbrev pub Searches : Type 0

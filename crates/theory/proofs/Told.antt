@@ -5,10 +5,12 @@ use mathlib.Core.Bool.{true, false≢true}
 use mathlib.Core.List.{List, [], _∷_, map, flatten, List·Memᴰ, List·Memᴰ·eq-of-singleton}
 use Prim.Native.Nat.{ℕ}
 use borrow.Author.Tests.{eqb-true}
+use lib.ListN.{length}
 use Rattle.semantics.specs.Base.{gives}
 use Rattle.semantics.specs.System.{system, waits}
 use Rattle.semantics.specs.Run.{Fault, collision, deadlock, missed}
-use Rattle.semantics.specs.Verdict.{Failing, notRobust, Slices, room, faults, liveFor, listedIn, VerdictMeans}
+use Rattle.semantics.specs.Verdict.{Failing, notRobust, Slices, room, localRows, faults, liveFor, listedIn}
+use Rattle.semantics.specs.Verdict.{VerdictMeans}
 use Rattle.semantics.proofs.Table.{l2, l3, l7, plenty, roomFor, sameFault, shownIn, table}
 use Rattle.semantics.proofs.Laws.{laws-hold, row-holds}
 use Rattle.theory.proofs.Demand3.{demand3-answer}
@@ -31,7 +33,7 @@ pub told-fault : (t : List ℕ) (before after : Slices) (told : Failing) (f : Fa
     → VerdictMeans t before after (gives (notRobust told)) → told .fault ≡ f
 told-fault t before after told f only means =
     let (c, listed, shows) = demand3-answer t before after (gives (notRobust told)) means .shown told refl in
-    let each = faults (system t) (waits t) (liveFor t (room before)) in
+    let each = faults (system t) (waits t) (liveFor (system t) (localRows t (length (before .localTable)))) in
     List·Memᴰ·eq-of-singleton
     (subst (List·Memᴰ (told .fault)) only
     (addAll-new sameFault same-fault [] (flatten (map each (listedIn t (room before))))

@@ -31,7 +31,7 @@ use Rattle.theory.proofs.Listing.{Nodup, nodup-index, index-nodup, pige
 use Rattle.theory.proofs.Live.{copies-nodup, copies-reachable, reachable-copies}
 use Rattle.theory.proofs.Rows.{LiveTest, moves-move, move-moves, ready-able, ready-live, able-ready, solo-step}
 use Rattle.theory.proofs.Rows.{good-reach}
-use Rattle.theory.proofs.Verdict.{row-refl, Fits, lively-test, listed-reach, reach-listed, Searched, Found}
+use Rattle.theory.proofs.Verdict.{row-refl, Fits, liveFor-test, listed-reach, reach-listed, Searched, Found}
 use Rattle.theory.proofs.Verdict.{found}
 
 module _ (t : List ℕ) (room : Room) (ok : check t ≡ 0) (long : tooShort t room ≡ false) where
@@ -42,7 +42,7 @@ module _ (t : List ℕ) (room : Room) (ok : check t ≡ 0) (long : tooShort t ro
   C = configurationRows t (room .configurationTable)
 
   abbrev live : ℕ → ℕ → Bool
-  live = liveFor t room
+  live = liveFor (system t) K
 
   abbrev rows : List (List ℕ)
   rows = listedIn t room
@@ -75,7 +75,7 @@ module _ (t : List ℕ) (room : Room) (ok : check t ≡ 0) (long : tooShort t ro
 
   module _ (fits : AllFit) where
     test : LiveTest (system t) live
-    test = lively-test (system t) (waits t) lawful K fits
+    test = liveFor-test (system t) (waits t) lawful K fits
 
     live-right : (i s : ℕ) → i < members t → Reachable t i s → (live i s ≡ true) ↔ Completable t i s
     live-right i s h r = (

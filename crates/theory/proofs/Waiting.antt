@@ -8,10 +8,10 @@ use native.Mathlib.Omega.{arith}
 use lib.ListN.{length}
 use Rattle.semantics.specs.Base.{Answer, gives}
 use Rattle.semantics.specs.System.{System, Waits, Lawful}
-use Rattle.semantics.specs.Verdict.{Row, configurations, faults, Finding, robust, verdictIn}
+use Rattle.semantics.specs.Verdict.{Row, faults, Finding, robust, liveFor, listedWith, verdictIn}
 use Rattle.theory.proofs.Lists.{true-not-false, apart}
 use Rattle.theory.proofs.Refusals.{refused-gives, gives-inj}
-use Rattle.theory.proofs.Verdict.{lively, Searched, Found, found}
+use Rattle.theory.proofs.Verdict.{Searched, Found, found}
 use Rattle.theory.proofs.Robust.{still-none}
 
 robust-inj : {m n : ℕ} → _≡_ {A = Finding} (robust m) (robust n) → m ≡ n
@@ -29,16 +29,16 @@ module _
         → verdictIn S W′ K C ≡ gives (robust count)
     robust-with-more count e = at (verdictIn S W K C) (found S W lawful K C) e
       where
-        after : length (configurations S (lively S W lawful K) C) ≡ count → Searched S W lawful K C
-            → ((c : Row S) → List·Memᴰ c (configurations S (lively S W lawful K) C)
-            → faults S W (lively S W lawful K) c ≡ [])
+        after : length (listedWith S K C) ≡ count → Searched S W lawful K C
+            → ((c : Row S) → List·Memᴰ c (listedWith S K C)
+            → faults S W (liveFor S K) c ≡ [])
             → (y : Answer Finding) → Found S W′ lawful′ K C y → y ≡ gives (robust count)
         after n s none y (Found.copies-full {i = i} h l) = absurd (omega (arith, s .fits i h))
         after n s none y (Found.dead {i = i} fits h dead lower) = absurd (true-not-false (s .solvable i h) dead)
         after n s none y (Found.configurations-full fits live l) = absurd (omega (arith, s .room))
         after n s none y (Found.faulty {c = c} {f = f} s′ m shown) =
             absurd (List·Memᴰ·not-nil
-            (subst (List·Memᴰ f) (still-none S W W′ lawful′ more (lively S W lawful K) c (none c m)) shown))
+            (subst (List·Memᴰ f) (still-none S W W′ lawful′ more (liveFor S K) c (none c m)) shown))
         after n s none y (Found.faultless s′ none′) = ap (λ (c : ℕ). gives (robust c)) n
 
         at : (x : Answer Finding) → Found S W lawful K C x → x ≡ gives (robust count)
