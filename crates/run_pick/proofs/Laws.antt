@@ -21,6 +21,7 @@ use Rattle.semantics.specs.Run.{not-yet, isClosed, rest, advance, given, runAft
 use Rattle.semantics.specs.Run.{pickStep, pick, pickable, stepsLeft, outcome, replayOn, replay, planOf, plansRefusal}
 use Rattle.semantics.specs.Run.{pastEnd}
 use Rattle.theory.proofs.Accepted.{accepted}
+use Rattle.theory.proofs.Loops.{Rest, any-holds, any-onward, any-ends, number-decides, number-onward, number-ends}
 use Rattle.theory.proofs.Plans.{checked-task, rest-is, rest-length}
 use Rattle.theory.proofs.Refusals.{refused-gives, gives-inj}
 use Rattle.theory.proofs.Walks.{pick-over}
@@ -32,7 +33,6 @@ use Rattle.fault.specs.declared.Fault.the-variants.{Collision as Crash}
 use Rattle.step.specs.Value.{decisionOf}
 use Rattle.step.specs.declared.Decision.{Decision}
 use Rattle.step.specs.declared.Decision.the-variants as decision
-use Rattle.run_plans.proofs.UpTo.{Onward, any-holds, any-onward, any-ends, decides, passes, stops}
 use Rattle.run_pick.specs.Inner.Meaning.{plansIn, pickIn, pickableIn, stepsLeftIn, outcomeIn, replayOnIn}
 use Rattle.run_pick.specs.Inner.Meaning.{replayIn}
 use Rattle.run_pick.specs.Value.{closedOf, runOf, replyOf, answerOf, replies, PickMeans}
@@ -198,20 +198,20 @@ module _ (t plans ends : List ℕ) (run : Run) where
   isPast i = ltb (length (planOf plans ends i)) (getD (run .places) i 0)
 
   module _ (n j : ℕ) (e : n ≡ members t) where
-    module _ (r : Onward (anyOf canPick) (members t) j) where
+    module _ (r : Rest (anyOf canPick) (upTo (members t)) j) where
       module _ (h : j < n) (b : Bool) (q : b ≡ canPick j) where
         pub pick-found : b ≡ true → true ≡ pickableIn t plans ends (runOf run)
         unfolding pickable
         pick-found h₁ = sym (any-holds canPick (members t) j r (omega arith) (sym q ∙ h₁))
 
-        pub pick-onward : b ≡ false → Onward (anyOf canPick) (members t) (j + 1)
+        pub pick-onward : b ≡ false → Rest (anyOf canPick) (upTo (members t)) (j + 1)
         pick-onward h₁ = any-onward canPick (members t) j r (omega arith) (sym q ∙ h₁)
 
       pub pick-none : n ≤ j → false ≡ pickableIn t plans ends (runOf run)
       unfolding pickable
       pick-none h = sym (any-ends canPick (members t) j r (omega arith))
 
-    module _ (r : Onward (anyOf hasSteps) (members t) j) where
+    module _ (r : Rest (anyOf hasSteps) (upTo (members t)) j) where
       module _ (h : j < n) (k m : ℕ) (q : k ≡ getD (run .places) j 0) (q₁ : m ≡ length (planOf plans ends j)) where
         pub left-found : k < m → true ≡ stepsLeftIn t plans ends (runOf run)
         unfolding stepsLeft
@@ -220,7 +220,7 @@ module _ (t plans ends : List ℕ) (run : Run) where
             (lt-ltb 0 (length (rest (plansIn t plans ends) (runOf run) j))
             (omega (arith, rest-length (members t) plans ends (runOf run) j (omega arith)))))
 
-        pub left-onward : m ≤ k → Onward (anyOf hasSteps) (members t) (j + 1)
+        pub left-onward : m ≤ k → Rest (anyOf hasSteps) (upTo (members t)) (j + 1)
         left-onward l =
             any-onward hasSteps (members t) j r (omega arith)
             (le-ltb 0 (length (rest (plansIn t plans ends) (runOf run) j))
@@ -230,14 +230,14 @@ module _ (t plans ends : List ℕ) (run : Run) where
       unfolding stepsLeft
       left-none h = sym (any-ends hasSteps (members t) j r (omega arith))
 
-    module _ (r : Onward (anyOf isPast) (members t) j) where
+    module _ (r : Rest (anyOf isPast) (upTo (members t)) j) where
       module _ (h : j < n) (k m : ℕ) (q : k ≡ getD (run .places) j 0) (q₁ : m ≡ length (planOf plans ends j)) where
         pub past-found : m < k → true ≡ pastEnd t plans ends (runOf run)
         past-found l =
             sym (any-holds isPast (members t) j r (omega arith)
             (lt-ltb (length (planOf plans ends j)) (getD (run .places) j 0) (omega arith)))
 
-        pub past-onward : k ≤ m → Onward (anyOf isPast) (members t) (j + 1)
+        pub past-onward : k ≤ m → Rest (anyOf isPast) (upTo (members t)) (j + 1)
         past-onward l =
             any-onward isPast (members t) j r (omega arith)
             (le-ltb (length (planOf plans ends j)) (getD (run .places) j 0) (omega arith))
@@ -245,21 +245,22 @@ module _ (t plans ends : List ℕ) (run : Run) where
       pub past-none : n ≤ j → false ≡ pastEnd t plans ends (runOf run)
       past-none h = sym (any-ends isPast (members t) j r (omega arith))
 
-module _ (t : List ℕ) (g n j : ℕ) (e : n ≡ members t) (r : Onward (missedIn (system t) g) (members t) j) where
+module _ (t : List ℕ) (g n j : ℕ) (e : n ≡ members t) (r : Rest (missedIn (system t) g) (upTo (members t)) j) where
   module _ (h : j < n) (w : ℕ) (q : w ≡ goal t j) (b : Bool) (q₁ : b ≡ within w g) where
     pub missed-found : not b ≡ true → Paper.failure (Paper.missed j) ≡ missedIn (system t) g (upTo (members t))
     unfolding missedIn
     missed-found h₁ =
-        sym (decides (missedIn (system t) g) (members t) r (omega arith) (Paper.failure (Paper.missed j))
+        sym (number-decides (missedIn (system t) g) (members t) j r (omega arith) (Paper.failure (Paper.missed j))
         (rw (← q, ← q₁, not-true b h₁)))
 
-    pub missed-onward : not b ≡ false → Onward (missedIn (system t) g) (members t) (j + 1)
+    pub missed-onward : not b ≡ false → Rest (missedIn (system t) g) (upTo (members t)) (j + 1)
     unfolding missedIn
-    missed-onward h₁ = passes (missedIn (system t) g) (members t) r (omega arith) (rw (← q, ← q₁, not-false b h₁))
+    missed-onward h₁ =
+        number-onward (missedIn (system t) g) (members t) j r (omega arith) (rw (← q, ← q₁, not-false b h₁))
 
   pub missed-none : n ≤ j → Paper.success ≡ missedIn (system t) g (upTo (members t))
   unfolding missedIn
-  missed-none h = sym (stops (missedIn (system t) g) (members t) r (omega arith))
+  missed-none h = sym (number-ends (missedIn (system t) g) (members t) j r (omega arith))
 
 -- ---- a run's outcome
 

@@ -15,13 +15,13 @@ use Rattle.semantics.specs.System.{system}
 use Rattle.semantics.specs.Solo.{entry, soloFrom}
 use Rattle.semantics.specs.Run.{beginning, planOf, endsFit, isSolves, planRefusal, plansRefusal}
 use Rattle.theory.proofs.Lists.{and-elim, all-true, mem-upTo, mem-getD}
+use Rattle.theory.proofs.Loops.{Rest, rest-begin, all-fails, all-onward, all-ends}
 use Rattle.theory.proofs.Refusals.{else-both, if-not-true, upTo-refusal}
 use Rattle.theory.proofs.Agrees.Solo.{entries-own}
 use Rattle.solo_replay.specs.Value.{soloOf}
 use Rattle.solo_replay.specs.declared.Solo.{Solo}
 use Rattle.solo_replay.specs.declared.Solo.the-variants.{Solves, Breaks, Short}
 use Rattle.run_plans.specs.Inner.Parts.{memberRefusal}
-use Rattle.run_plans.proofs.UpTo.{Onward, begin, all-fails, all-onward, all-ends}
 
 pub later : (ends : List ℕ) (j : ℕ) → (j ≡ 0 → ⊥) → getD ends (j - 1) 0 ≡ beginning ends j
 later ends zero h = absurd (h refl)
@@ -36,11 +36,11 @@ rises ends j = leb (beginning ends j) (getD ends j 0)
 -- n ends, and of those before j none before the one before it
 pub record Rising (n : ℕ) (ends : List ℕ) (j : ℕ) : Type 0 where
   pub many : length ends ≡ n
-  pub rest : Onward (allOf (rises ends)) n j
+  pub rest : Rest (allOf (rises ends)) (upTo n) j
 
 module _ (n : ℕ) (ends : List ℕ) where
   pub rising : length ends ≡ n → Rising n ends 0
-  rising h = record { many = h; rest = begin (allOf (rises ends)) n }
+  rising h = record { many = h; rest = rest-begin (allOf (rises ends)) (upTo n) }
 
   pub rises-there : (j : ℕ) → Rising n ends j → j < n → (b : ℕ) → b ≡ beginning ends j → b ≤ getD ends j 0
       → Rising n ends (j + 1)

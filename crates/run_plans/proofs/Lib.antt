@@ -1,2 +1,1 @@
-pub mod UpTo
 pub mod Laws

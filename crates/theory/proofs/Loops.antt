@@ -30,6 +30,14 @@ module _ (P : ℕ → Type 0) (n : ℕ) where
     pub passed-end : n ≤ k → (j : ℕ) → j < n → P j
     passed-end h j l = p .each j (omega (arith, p .most))
 
+-- a test that fails of each before k
+abbrev pub Fails : (ℕ → Bool) → ℕ → Type 0
+Fails p k = p k ≡ false
+
+pub fails-onward : (p : ℕ → Bool) (n k : ℕ) → Passed (Fails p) n k → k < n → (b : Bool) → b ≡ p k → b ≡ false
+    → Passed (Fails p) n (k + 1)
+fails-onward p n k r h b q e = passed-onward (Fails p) n k r h (sym q ∙ e)
+
 -- ---- the whole is the rest from k on
 
 pub record Rest {A B : Type 0} (f : List A → B) (xs : List A) (k : ℕ) : Type 0 where

@@ -4,9 +4,9 @@ use Prim.Native.Nat.{_-_}
 use native.Mathlib.Omega.{arith}
 use Rattle.semantics.specs.Base.{upTo}
 use Rattle.theory.proofs.Lists.{upTo-length}
+use Rattle.theory.proofs.Loops.{upTo-at}
 use Rattle.report.specs.File.{planLines, plansLines}
 use Rattle.report.proofs.Laws.{Stage, stage-begin, stage-room, stage-onward, stage-end}
-use Rattle.run_plans.proofs.UpTo.{upTo-at}
 use Rattle.report.proofs.put_plans.Statement.{statement}
 use Rattle.report.proofs.put_plans.Tie as tie
 

@@ -2,17 +2,18 @@
 -- nothing.
 use borrow.Author.Needs.{needs}
 use Prim.Native.Nat.{_-_}
+use Rattle.semantics.specs.Base.{upTo}
 use Rattle.semantics.specs.Task.{members}
 use Rattle.semantics.specs.System.{system}
 use Rattle.semantics.specs.Run.{missedIn}
+use Rattle.theory.proofs.Loops.{Rest, rest-begin}
 use Rattle.mask.specs.Number.{number}
-use Rattle.run_plans.proofs.UpTo.{Onward, begin}
 use Rattle.run_pick.proofs.Laws.{missed-found, missed-onward, missed-none}
 use Rattle.run_pick.proofs.missed.Statement.{statement}
 use Rattle.run_pick.proofs.missed.Tie as tie
 
 abbrev Inv-loop : tie.InvT-loop
-Inv-loop t s n j₀ j = Onward (missedIn (system t) (number s)) (members t) j
+Inv-loop t s n j₀ j = Rest (missedIn (system t) (number s)) (upTo (members t)) j
 
 abbrev μ-loop : tie.MeasureT-loop
 μ-loop t s n j₀ j = n - j
@@ -21,7 +22,7 @@ members-requires : tie.Need-members-requires Inv-loop μ-loop
 members-requires c κs = search needs
 
 loop-holds : tie.Need-loop-holds Inv-loop μ-loop
-loop-holds c = search begin
+loop-holds c = search rest-begin
 
 goal-requires : tie.Need-goal-requires Inv-loop μ-loop
 goal-requires c κs = search needs

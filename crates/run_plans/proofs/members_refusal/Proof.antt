@@ -2,15 +2,16 @@
 -- Assumes nothing.
 use borrow.Author.Needs.{needs}
 use Prim.Native.Nat.{_-_}
-use Rattle.semantics.specs.Base.{upTo}
+use Rattle.semantics.specs.Base.{upTo, firstRefusal}
 use Rattle.semantics.specs.Task.{members}
-use Rattle.task.proofs.Refusals.{Rest, begin, onward-upTo, out-upTo, end-upTo}
+use Rattle.theory.proofs.Loops.{Rest, rest-begin}
+use Rattle.task.proofs.Refusals.{onward-upTo, out-upTo, end-upTo}
 use Rattle.run_plans.specs.Inner.Parts.{memberRefusal}
 use Rattle.run_plans.proofs.members_refusal.Statement.{statement}
 use Rattle.run_plans.proofs.members_refusal.Tie as tie
 
 abbrev Inv-loop : tie.InvT-loop
-Inv-loop t plans ends n j₀ j = Rest (memberRefusal t plans ends) (upTo (members t)) j
+Inv-loop t plans ends n j₀ j = Rest (firstRefusal (memberRefusal t plans ends)) (upTo (members t)) j
 
 abbrev μ-loop : tie.MeasureT-loop
 μ-loop t plans ends n j₀ j = n - j
@@ -19,7 +20,7 @@ members-requires : tie.Need-members-requires Inv-loop μ-loop
 members-requires c κs = search needs
 
 loop-holds : tie.Need-loop-holds Inv-loop μ-loop
-loop-holds c = search begin
+loop-holds c = search rest-begin
 
 member-refusal-requires : tie.Need-member-refusal-requires Inv-loop μ-loop
 member-refusal-requires c κs = search needs

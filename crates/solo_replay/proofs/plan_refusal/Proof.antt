@@ -3,19 +3,21 @@
 use borrow.Author.Needs.{needs}
 use Prim.Native.Nat.{_-_}
 use lib.ListN.{length}
+use Rattle.semantics.specs.Base.{firstRefusal}
 use Rattle.semantics.specs.Solo.{entry}
-use Rattle.task.proofs.Refusals.{Rest, begin, onward, out, end}
+use Rattle.theory.proofs.Loops.{Rest, rest-begin}
+use Rattle.task.proofs.Refusals.{onward, out, end}
 use Rattle.solo_replay.proofs.plan_refusal.Statement.{statement}
 use Rattle.solo_replay.proofs.plan_refusal.Tie as tie
 
 abbrev Inv-loop : tie.InvT-loop
-Inv-loop t i plan k₀ k = Rest (entry t i) plan k
+Inv-loop t i plan k₀ k = Rest (firstRefusal (entry t i)) plan k
 
 abbrev μ-loop : tie.MeasureT-loop
 μ-loop t i plan k₀ k = length plan - k
 
 loop-holds : tie.Need-loop-holds Inv-loop μ-loop
-loop-holds c = search begin
+loop-holds c = search rest-begin
 
 mul-entry : tie.Need-mul-entry Inv-loop μ-loop
 mul-entry c = search needs

@@ -1,14 +1,15 @@
 -- `task::action_rows` meets its contract: the first refusal of all rows is that of the rows from a on. Assumes nothing.
 use borrow.Author.Needs.{needs}
 use Prim.Native.Nat.{_-_}
-use Rattle.semantics.specs.Base.{upTo}
+use Rattle.semantics.specs.Base.{upTo, firstRefusal}
 use Rattle.semantics.specs.Task.{actionRow, actions}
-use Rattle.task.proofs.Refusals.{Rest, begin, onward-upTo, out-upTo, end-upTo}
+use Rattle.theory.proofs.Loops.{Rest, rest-begin}
+use Rattle.task.proofs.Refusals.{onward-upTo, out-upTo, end-upTo}
 use Rattle.task.proofs.action_rows.Statement.{statement}
 use Rattle.task.proofs.action_rows.Tie as tie
 
 abbrev Inv-loop : tie.InvT-loop
-Inv-loop t m a₀ a = Rest (actionRow t) (upTo (actions t)) a
+Inv-loop t m a₀ a = Rest (firstRefusal (actionRow t)) (upTo (actions t)) a
 
 abbrev μ-loop : tie.MeasureT-loop
 μ-loop t m a₀ a = m - a
@@ -17,7 +18,7 @@ word-requires : tie.Need-word-requires Inv-loop μ-loop
 word-requires c κs = search needs
 
 loop-holds : tie.Need-loop-holds Inv-loop μ-loop
-loop-holds c = search begin
+loop-holds c = search rest-begin
 
 action-row-requires : tie.Need-action-row-requires Inv-loop μ-loop
 action-row-requires c κs = search needs

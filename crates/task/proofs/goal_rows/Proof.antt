@@ -1,14 +1,15 @@
 -- `task::goal_rows` meets its contract: the first refusal of all rows is that of the rows from i on. Assumes nothing.
 use borrow.Author.Needs.{needs}
 use Prim.Native.Nat.{_-_}
-use Rattle.semantics.specs.Base.{upTo}
+use Rattle.semantics.specs.Base.{upTo, firstRefusal}
 use Rattle.semantics.specs.Task.{goalRow, members}
-use Rattle.task.proofs.Refusals.{Rest, begin, onward-upTo, out-upTo, end-upTo}
+use Rattle.theory.proofs.Loops.{Rest, rest-begin}
+use Rattle.task.proofs.Refusals.{onward-upTo, out-upTo, end-upTo}
 use Rattle.task.proofs.goal_rows.Statement.{statement}
 use Rattle.task.proofs.goal_rows.Tie as tie
 
 abbrev Inv-loop : tie.InvT-loop
-Inv-loop t n i₀ i = Rest (goalRow t) (upTo (members t)) i
+Inv-loop t n i₀ i = Rest (firstRefusal (goalRow t)) (upTo (members t)) i
 
 abbrev μ-loop : tie.MeasureT-loop
 μ-loop t n i₀ i = n - i
@@ -17,7 +18,7 @@ word-requires : tie.Need-word-requires Inv-loop μ-loop
 word-requires c κs = search needs
 
 loop-holds : tie.Need-loop-holds Inv-loop μ-loop
-loop-holds c = search begin
+loop-holds c = search rest-begin
 
 goal-row-requires : tie.Need-goal-row-requires Inv-loop μ-loop
 goal-row-requires c κs = search needs
