@@ -119,16 +119,6 @@ module _ {A : Type 0} where
     true-all [] h = refl
     true-all (x ∷ xs) h = and-intro (h x (List·Memᴰ·head refl)) (true-all xs (λ y m. h y (List·Memᴰ·tail m)))
 
-    -- a list of which not all pass the test has one that does not
-    pub all-false : (xs : List A) → allOf p xs ≡ false → (x : A) × List·Memᴰ x xs × (p x ≡ false)
-    unfolding allOf
-    all-false [] h = absurd (true≢false h)
-    all-false (x ∷ xs) h =
-        ⊎-elim
-        (λ t. let r = all-false xs (rw t at h) in (r .0, List·Memᴰ·tail (r .1), r .2))
-        (λ f. (x, List·Memᴰ·head refl, f))
-        (bool-cases (p x))
-
     pub false-all : {x : A} {xs : List A} → List·Memᴰ x xs → p x ≡ false → allOf p xs ≡ false
     false-all {x} {xs} m f = not-true-false (allOf p xs) (λ t. true-not-false (all-true t m) f)
 
