@@ -92,7 +92,9 @@ pub run-held : (words : List ℕ) (m : Mask) → number m ≡ getD words 9 0 →
     → 10 ≤ length words
     → runOf (record {
       shared = record { 0 = m };
-      places = getD words 1 0 ∷ getD words 2 0 ∷ getD words 3 0 ∷ getD words 4 0 ∷ getD words 5 0 ∷ getD words 6 0 ∷ getD words 7 0 ∷ getD words 8 0 ∷ [];
+      places =
+          getD words 1 0 ∷ getD words 2 0 ∷ getD words 3 0 ∷ getD words 4 0
+          ∷ getD words 5 0 ∷ getD words 6 0 ∷ getD words 7 0 ∷ getD words 8 0 ∷ [];
       closed = c;
     })
     ≡ runIn words

@@ -2,7 +2,7 @@
 use mathlib.Core.Path.{refl}
 use mathlib.Core.List.{List, [], _∷_, flatten}
 use Prim.Native.Nat.{ℕ, zero, suc}
-use lib.ListN.{getD}
+use lib.ListN.{getD, drop}
 use Rattle.semantics.specs.Base.{anyOf, allOf, collect, keep, numbersFrom, firstRefusal}
 use Rattle.semantics.specs.Mask.{within, after, below}
 use Rattle.semantics.specs.Task.{headFits, goalRow, actionRow, check}
@@ -20,7 +20,10 @@ unfolding anyOf allOf collect flatten keep numbersFrom firstRefusal within after
     routine step addNew addAll grow soloFrom soloNext copies leadingTo liveOf start rest missedIn pickStep pick pickable
     stepsLeft outcome replayOn replay endsFit plansRefusal jointReplay sameRow moved ready moves configurations collides
     stuck blocked deadlocked faults solvableElse verdictIn verdict
-laws-hold = (refl, (refl, (refl, (refl, (refl, (refl, (refl, (refl, (refl, (refl, (refl, (refl, (refl, (refl, (refl, (refl, (refl, (refl, (refl, (refl, (refl, (refl, (refl, tt)))))))))))))))))))))))
+laws-hold =
+    let later : AllHold (drop 12 table) =
+    (refl, (refl, (refl, (refl, (refl, (refl, (refl, (refl, (refl, (refl, (refl, tt))))))))))) in
+    (refl, (refl, (refl, (refl, (refl, (refl, (refl, (refl, (refl, (refl, (refl, (refl, later))))))))))))
 
 pub further-hold : AllHold further
 unfolding anyOf allOf collect keep numbersFrom firstRefusal within after below headFits goalRow actionRow check routine
@@ -28,7 +31,9 @@ unfolding anyOf allOf collect keep numbersFrom firstRefusal within after below h
     stepsLeft outcome replayOn replay endsFit plansRefusal jointReplay sameRow moved ready moves configurations collides
     stuck blocked deadlocked faults solvableElse verdictIn verdict
 further-hold =
-    (refl, (refl, (refl, (refl, (refl, (refl, (refl, (refl, (refl, (refl, (refl, (refl, (refl, (refl, (refl, (refl, (refl, (refl, (refl, (refl, (refl, (refl, (refl, tt)))))))))))))))))))))))
+    let later : AllHold (drop 12 further) =
+    (refl, (refl, (refl, (refl, (refl, (refl, (refl, (refl, (refl, (refl, (refl, tt))))))))))) in
+    (refl, (refl, (refl, (refl, (refl, (refl, (refl, (refl, (refl, (refl, (refl, (refl, later))))))))))))
 
 -- one row of a table
 pub row-holds : (cs : List Claim) → AllHold cs → (k : ℕ) → Holds (getD cs k (checkOf [] 1))
