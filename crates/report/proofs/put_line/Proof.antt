@@ -7,25 +7,29 @@ use Rattle.report.proofs.put_line.Statement.{statement}
 use Rattle.report.proofs.put_line.Tie as tie
 
 put-requires : tie.Need-put-requires
-put-requires c κs = let s : tie.Start = search in
-    let a = s .args in omega (arith, line-length (a .word .now) (a .v))
+put-requires c κs =
+    let s : tie.Start = search in
+    omega (arith, line-length (s .args .word .now) (s .args .v))
 
 put-byte-requires : tie.Need-put-byte-requires
-put-byte-requires c κs = let s : tie.Start = search in
-    let a = s .args in omega (arith, line-length (a .word .now) (a .v))
+put-byte-requires c κs =
+    let s : tie.Start = search in
+    omega (arith, line-length (s .args .word .now) (s .args .v))
 
 put-number-requires : tie.Need-put-number-requires
-put-number-requires c κs = let s : tie.Start = search in
-    let a = s .args in
-    omega (arith, line-length (a .word .now) (a .v))
+put-number-requires c κs =
+    let s : tie.Start = search in
+    omega (arith, line-length (s .args .word .now) (s .args .v))
 
 put-byte-requires-2 : tie.Need-put-byte-requires-2
-put-byte-requires-2 c κs = let s : tie.Start = search in
-    let a = s .args in omega (arith, line-length (a .word .now) (a .v))
+put-byte-requires-2 c κs =
+    let s : tie.Start = search in
+    omega (arith, line-length (s .args .word .now) (s .args .v))
 
 put-byte-requires-3 : tie.Need-put-byte-requires-3
-put-byte-requires-3 c κs = let s : tie.Start = search in
-    let a = s .args in omega (arith, line-length (a .word .now) (a .v))
+put-byte-requires-3 c κs =
+    let s : tie.Start = search in
+    omega (arith, line-length (s .args .word .now) (s .args .v))
 
 same-length : tie.Need-same-length
 same-length c = search needs
