@@ -42,14 +42,15 @@ shared-slice-read-result c = omega (arith, inside (c .before))
 
 cast-result : tie.Need-cast-result
 cast-result c =
+    let s : tie.Start = search in
     omega (
       arith,
-      c .shared-slice-known4 .given (c .before .beginning .result + c .before .before .before .before .before .args .k),
+      c .shared-slice-known4 .given (c .before .beginning .result + s .args .k),
     )
 
 returns : tie.Need-returns
 returns c =
-    let s = c .before .before .before .before .before in
+    let s : tie.Start = search in
     let a = s .args in
     let same =
     sym (plan-at (a .plans .now) (a .ends .now) (a .j) (its-part (c .before .before)) (a .k) (s .pre .1 .1)

@@ -37,7 +37,9 @@ loop-less c = search needs
 
 loop-again : tie.Need-loop-again Inv-loop μ-loop
 loop-again c =
-    rises-there _ _ _ (c .before .before .before .before .loop .inv) (c .before .before .before .loop-test .taken) _
+    let loop : tie.At-loop Inv-loop μ-loop = search in
+    let turn : tie.In-loop Inv-loop μ-loop = search in
+    rises-there _ _ _ (loop .loop .inv) (turn .loop-test .taken) _
     (c .before .beginning .ensures) (c .if2 .left)
 
 beginning-requires-2 : tie.Need-beginning-requires-2 Inv-loop μ-loop

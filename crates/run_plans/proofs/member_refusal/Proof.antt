@@ -37,9 +37,12 @@ plan-refusal-requires c κs = search needs
 
 returns : tie.Need-returns
 returns c =
-    let a = c .before .before .before .before .before .before .before .args in
-    let b = c .before .before .before .beginning in
-    let p = its-part (c .before .before .before .before) in
+    let beginning : tie.After-beginning = search in
+    let shared-slice-known3 : tie.After-shared-slice-known3 = search in
+    let s : tie.Start = search in
+    let a = s .args in
+    let b = beginning .beginning in
+    let p = its-part shared-slice-known3 in
     part-refusal (a .t .now) (a .plans .now) (a .ends .now) (a .j) (c .plan-refusal .result) (b .result) (b .ensures)
     (omega (arith, p .begins, b .ensures)) (c .plan-refusal .ensures)
 

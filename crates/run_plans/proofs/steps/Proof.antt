@@ -24,7 +24,8 @@ sub-result c = let p = its-part (c .before .before) in omega (arith, p .many, p 
 
 returns : tie.Need-returns
 returns c =
-    let a = c .before .before .before .before .before .args in
+    let s : tie.Start = search in
+    let a = s .args in
     omega (arith, plan-length (a .plans .now) (a .ends .now) (a .j) (its-part (c .before .before)))
 
 pub steps-spec : {M : Type 1} → statement M

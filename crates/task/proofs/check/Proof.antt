@@ -27,8 +27,9 @@ returns-4 c = search check-initial
 
 rows-requires : tie.Need-rows-requires
 rows-requires c κs =
+    let s : tie.Start = search in
     let d = c .before .before in
-    sized-is (d .before .before .before .before .before .before .args .t .now) (d .before .sized .result)
+    sized-is (s .args .t .now) (d .before .sized .result)
     (d .before .sized .ensures) (d .if3 .left)
 
 returns-5 : tie.Need-returns-5
