@@ -9,16 +9,17 @@ use Rattle.run_plans.proofs.Laws.{Part, checked-part, checked-step, pla
 use Rattle.run_plans.proofs.action.Statement.{statement}
 use Rattle.run_plans.proofs.action.Tie as tie
 
+abbrev start-of : tie.After-shared-slice-known3 → tie.Start
+start-of c = c .before .before .before
+
 its-part : (c : tie.After-shared-slice-known3)
-    → Part (members (c .before .before .before .args .t .now)) (c .before .before .before .args .plans .now)
-    (c .before .before .before .args .ends .now) (c .before .before .before .args .j)
-its-part c = let s = c .before .before .before in checked-part _ _ _ (s .args .j) (s .pre .0) (s .pre .1 .0)
+    → let a = start-of c .args in Part (members (a .t .now)) (a .plans .now) (a .ends .now) (a .j)
+its-part c = let s = start-of c in checked-part _ _ _ (s .args .j) (s .pre .0) (s .pre .1 .0)
 
 inside : (c : tie.After-beginning)
-    → c .beginning .result + c .before .before .before .before .args .k < length
-    (c .before .before .before .before .args .plans .now)
+    → let a = start-of (c .before) .args in c .beginning .result + a .k < length (a .plans .now)
 inside c =
-    let s = c .before .before .before .before in
+    let s = start-of (c .before) in
     let p = its-part (c .before) in
     omega (
       arith,

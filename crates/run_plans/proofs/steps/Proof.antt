@@ -5,10 +5,12 @@ use Rattle.run_plans.proofs.Laws.{Part, checked-part, plan-length}
 use Rattle.run_plans.proofs.steps.Statement.{statement}
 use Rattle.run_plans.proofs.steps.Tie as tie
 
+abbrev start-of : tie.After-shared-slice-known3 → tie.Start
+start-of c = c .before .before .before
+
 its-part : (c : tie.After-shared-slice-known3)
-    → Part (members (c .before .before .before .args .t .now)) (c .before .before .before .args .plans .now)
-    (c .before .before .before .args .ends .now) (c .before .before .before .args .j)
-its-part c = let s = c .before .before .before in checked-part _ _ _ (s .args .j) (s .pre .0) (s .pre .1)
+    → let a = start-of c .args in Part (members (a .t .now)) (a .plans .now) (a .ends .now) (a .j)
+its-part c = let s = start-of c in checked-part _ _ _ (s .args .j) (s .pre .0) (s .pre .1)
 
 beginning-requires : tie.Need-beginning-requires
 beginning-requires c κs = omega (arith, its-part c .many)

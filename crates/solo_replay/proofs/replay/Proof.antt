@@ -33,12 +33,14 @@ shared-slice-read-a c = search needs
 cast-a : tie.Need-cast-a Inv-loop μ-loop
 cast-a c = omega (arith, c .shared-slice-known3 .given (c .before .before .loop .k))
 
+abbrev start-of : tie.In-loop Inv-loop μ-loop → tie.Start Inv-loop μ-loop
+start-of c = c .before .before .before .before .before
+
 -- the step is an action
 inside : (c : tie.In-loop Inv-loop μ-loop)
-    → getD (c .before .before .before .before .before .args .plan .now) (c .before .loop .k) 0 < actions
-    (c .before .before .before .before .before .args .t .now)
+    → getD (start-of c .args .plan .now) (c .before .loop .k) 0 < actions (start-of c .args .t .now)
 inside c =
-    let s = c .before .before .before .before .before in
+    let s = start-of c in
     entry-action (s .args .t .now) (s .args .i) _
     (accepted-at (entry (s .args .t .now) (s .args .i)) (s .args .plan .now) (s .pre .1 .1) (c .before .loop .k)
     (omega arith))
