@@ -145,7 +145,8 @@ module _ (t plans ends picks out : List ℕ) where
   joint-short h =
       short-call numbers.replay out (jointReplay t plans ends picks) (ltb (length out) 4) (lt-ltb (length out) 4 h)
 
-  module _ (room : 4 ≤ length out) (s : ReplayAnswer) (is : picksValue.replayedOf s ≡ jointReplay t plans ends picks) where
+  module _ (room : 4 ≤ length out) (s : ReplayAnswer)
+      (is : picksValue.replayedOf s ≡ jointReplay t plans ends picks) where
     pub joint-refused : (k : ℕ) → s ≡ replayed.Refused k → JointCall (call k out)
     joint-refused k so =
         refused-call numbers.replay out (jointReplay t plans ends picks) (ltb (length out) 4) k (long out 4 room)

@@ -22,7 +22,8 @@ abbrev start-of : tie.After-n → tie.Start
 start-of c = read-of c .before .before .before .before .before
 
 words : (c : tie.After-n)
-    → Words (start-of c .args .text .now) (start-of c .args .words .now) (read-of c .read .last .1 .0) (c .n .given .0 .0)
+    → Words (start-of c .args .text .now) (start-of c .args .words .now) (read-of c .read .last .1 .0)
+    (c .n .given .0 .0)
 words c =
     let s = start-of c in
     let d = read-of c in
