@@ -41,8 +41,8 @@ use Rattle.run_pick.proofs.Laws.{means-gives, means-refused}
 use Rattle.text.specs.Post.{reading}
 use Rattle.text.specs.declared.TextRead.{TextRead}
 use Rattle.text.specs.declared.TextRead.the-variants as textRead
-use Rattle.verdict.specs.Value.{answerOf}
-use Rattle.verdict.specs.declared.VerdictAnswer.{VerdictAnswer}
+use Rattle.fault.specs.Value.{answerOf}
+use Rattle.fault.specs.declared.VerdictAnswer.{VerdictAnswer}
 use Rattle.capi_numbers.specs.Call.{Call, call, front, told, unlessShort, called, verdictCall}
 use Rattle.capi_numbers.specs.Numbers as numbers
 use Rattle.capi_numbers.specs.Runs.{runWords, runIn, wordsOf, after}

@@ -2,15 +2,14 @@
 use mathlib.Core.Path.{_≡_, refl, sym, ap, _∙_}
 use mathlib.Core.List.{List, [], _∷_}
 use Prim.Native.Nat.{ℕ}
-use Rattle.fault.specs.Value.{faultOf, verdictOf}
+use Rattle.fault.specs.Value.{faultOf, verdictOf, answerOf}
 use Rattle.fault.specs.declared.Fault.{Fault}
 use Rattle.fault.specs.declared.Fault.the-variants.{Collision, Deadlock, Missed}
 use Rattle.fault.specs.declared.Failing.{Failing}
 use Rattle.fault.specs.declared.Verdict.{Verdict}
 use Rattle.fault.specs.declared.Verdict.the-variants.{Unsolvable, NotRobust, Robust}
-use Rattle.verdict.specs.Value.{answerOf}
-use Rattle.verdict.specs.declared.VerdictAnswer.{VerdictAnswer}
-use Rattle.verdict.specs.declared.VerdictAnswer.the-variants as answer
+use Rattle.fault.specs.declared.VerdictAnswer.{VerdictAnswer}
+use Rattle.fault.specs.declared.VerdictAnswer.the-variants as answer
 use Rattle.capi_numbers.specs.Call.{Call, call, front, told}
 use Rattle.capi_numbers.specs.Numbers as numbers
 

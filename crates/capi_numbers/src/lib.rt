@@ -7,14 +7,14 @@ ghost use lib.ListN.{length};
 ghost use Rattle.step.specs.Value.{decisionOf};
 ghost use Rattle.solo_replay.specs.Value.{soloOf};
 ghost use Rattle.run_pick.specs.Value.{closedOf, runOf, replyOf, outcomeOf};
-ghost use Rattle.fault.specs.Value.{faultOf, verdictOf};
-ghost use Rattle.verdict.specs.Value.{answerOf};
+ghost use Rattle.fault.specs.Value.{faultOf, verdictOf, answerOf};
 ghost use Rattle.capi_numbers.specs.Call.{call, front, told};
 ghost use Rattle.capi_numbers.specs.Numbers as numbers;
 ghost use Rattle.capi_numbers.specs.Runs.{runWords, closedIn, closedWord, runIn, wordsOf};
 use fault::Failing;
 use fault::Fault;
 use fault::Verdict;
+use fault::VerdictAnswer;
 use mask::Shared;
 use run_pick::Closed;
 use run_pick::Outcome;
@@ -22,7 +22,6 @@ use run_pick::Reply;
 use run_pick::Run;
 use solo_replay::Solo;
 use step::Decision;
-use verdict::VerdictAnswer;
 
 // The numbers at the front of the slice, the rest as it was.
 pub fn put(slice: &mut [u64], numbers: &[u64])

@@ -8,14 +8,13 @@ use lib.Seq.{length-take-le}
 use Rattle.semantics.specs.Base.{numbersFrom, gives}
 use Rattle.semantics.specs.Verdict.{notRobust, conflictPicks}
 use Rattle.theory.proofs.Laid.{Laid, laid-append}
-use Rattle.fault.specs.Value.{faultOf, failingOf, verdictOf}
+use Rattle.fault.specs.Value.{faultOf, failingOf, verdictOf, answerOf}
 use Rattle.fault.specs.declared.Fault.the-variants.{Collision, Deadlock, Missed}
 use Rattle.fault.specs.declared.Failing.{Failing}
 use Rattle.fault.specs.declared.Verdict.{Verdict}
 use Rattle.fault.specs.declared.Verdict.the-variants.{Unsolvable, NotRobust, Robust}
-use Rattle.verdict.specs.Value.{answerOf}
-use Rattle.verdict.specs.declared.VerdictAnswer.{VerdictAnswer}
-use Rattle.verdict.specs.declared.VerdictAnswer.the-variants.{Refused, Gives}
+use Rattle.fault.specs.declared.VerdictAnswer.{VerdictAnswer}
+use Rattle.fault.specs.declared.VerdictAnswer.the-variants.{Refused, Gives}
 use Rattle.report.specs.File.{word, line, conflictLines, faultLine, body}
 use Rattle.report.specs.Inner.Put.{mostLine, Room, Inside, Holds, conflictOf}
 use Rattle.report.proofs.Laws.{line-short, line-room}

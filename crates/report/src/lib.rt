@@ -10,15 +10,14 @@ ghost use Rattle.theory.proofs.Laid.{Laid};
 ghost use Rattle.text.specs.Inner.Written.{digits};
 ghost use Rattle.semantics.specs.Base.{gives};
 ghost use Rattle.semantics.specs.Verdict.{notRobust, conflictPicks};
-ghost use Rattle.fault.specs.Value.{faultOf, failingOf, verdictOf};
-ghost use Rattle.verdict.specs.Value.{answerOf};
+ghost use Rattle.fault.specs.Value.{faultOf, failingOf, verdictOf, answerOf};
 ghost use Rattle.report.specs.File.{word, header, line, lines, planLines, plansLines};
 ghost use Rattle.report.specs.File.{conflictLines, faultLine, body, file};
 ghost use Rattle.report.specs.Inner.Put.{mostLine, mostFile, Room, Inside, Holds, conflictOf};
 use fault::Failing;
 use fault::Fault;
 use fault::Verdict;
-use verdict::VerdictAnswer;
+use fault::VerdictAnswer;
 
 fn put_byte(out: &mut [u8], at: usize, byte: u8) -> usize
     requires { ⌜ Room (now out) at (byte ∷ []) ⌝ }

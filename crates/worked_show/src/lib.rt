@@ -2,6 +2,7 @@
 use fault::Failing;
 use fault::Fault;
 use fault::Verdict;
+use fault::VerdictAnswer;
 use mask::Shared;
 use run_pick::Answer;
 use run_pick::Closed;
@@ -14,7 +15,6 @@ use solo_replay::SoloAnswer;
 use solo_search::SearchAnswer;
 use step::Decision;
 use step::Stepped;
-use verdict::VerdictAnswer;
 
 // ---- lines
 

@@ -4,7 +4,7 @@ use Prim.Native.Nat.{ℕ}
 use native.Mathlib.Omega.{arith}
 use borrow.Author.Needs.{needs}
 use Rattle.semantics.specs.Verdict.{Slices, lentOf}
-use Rattle.verdict.specs.Value.{answerOf}
+use Rattle.fault.specs.Value.{answerOf}
 use Rattle.report.specs.Inner.Put.{Holds}
 use Rattle.program.proofs.Laws.{holds, reports, file-fits}
 use Rattle.program.proofs.judge.Statement.{statement}

@@ -2,7 +2,7 @@
 use native.Mathlib.Omega.{arith}
 use borrow.Author.Needs.{needs}
 use Rattle.theory.proofs.Laid.{laid-append}
-use Rattle.verdict.specs.Value.{answerOf}
+use Rattle.fault.specs.Value.{answerOf}
 use Rattle.semantics.specs.Base.{numbersFrom}
 use Rattle.report.specs.File.{word}
 use Rattle.report.proofs.Laws.{conflict-most}
