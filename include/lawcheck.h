@@ -1,32 +1,35 @@
 /* The law checker's C interface.
  *
- * Every function is total: it takes any input and gives either an answer or the refusal that stands first
- * in the order written below it. It returns 0 for an answer and the refusal's number otherwise.
+ * Every function is total: it takes any input and gives either an answer or the refusal that stands
+ * first in the order written below it. It returns 0 for an answer and the refusal's number
+ * otherwise.
  *
- * A slice passes as a pointer and a length, counted in elements. Each pointer must be aligned and valid for
- * its length, not null also where the length is 0, and no slice that is written may overlap another one.
- * Nothing is kept after the return, and nothing is shared between calls.
+ * A slice passes as a pointer and a length, counted in elements. Each pointer must be aligned and
+ * valid for its length, not null also where the length is 0, and no slice that is written may
+ * overlap another one. Nothing is kept after the return, and nothing is shared between calls.
  *
- * An answer's numbers are written, in the order stated, to the front of `out`; a number that an answer does
- * not have is written as 0, and the rest of `out` stays as it was. After a refusal all of `out` stays as it
- * was. An `out`, a run or a shared copy shorter than stated is refused with 14 before anything else.
+ * An answer's numbers are written, in the order stated, to the front of `out`; a number that an
+ * answer does not have is written as 0, and the rest of `out` stays as it was. After a refusal all
+ * of `out` stays as it was. An `out`, a run or a shared copy shorter than stated is refused with 14
+ * before anything else.
  *
- * Terms. A fact is a number from 0 to F - 1. A mask is a word in which bit f stands for fact f. A shared copy
- * is the mask of the facts that hold for all; a local copy is what a member's own steps alone have made of
- * the initial mask I. An action answers wait, collision or go at a shared copy. A plan of a member is a list
- * of its actions; it solves if, from I, each precondition holds in the local copy as it comes and the goal
- * holds at the end. A run has one solving plan for each member, and a pick does a member's next step.
+ * Terms. A fact is a number from 0 to F - 1. A mask is a word in which bit f stands for fact f. A
+ * shared copy is the mask of the facts that hold for all; a local copy is what a member's own steps
+ * alone have made of the initial mask I. An action answers wait, collision or go at a shared copy.
+ * A plan of a member is a list of its actions; it solves if, from I, each precondition holds in the
+ * local copy as it comes and the goal holds at the end. A run has one solving plan for each member,
+ * and a pick does a member's next step.
  *
  * A task is rows of five words:
  *   row 0           F (1 to 64), members n (1 to 8), actions m (0 to 256), I, 0
  *   rows 1 to n     i, goal mask, 0, 0, 0           for member i from 0
  *   then m rows     member, pre, wait, add, del     for action a from 0; wait is within pre
  *
- * Plans of all members stand in one slice, one after another; `ends` has one number for each member, the
- * place in that slice at which its plan ends.
+ * Plans of all members stand in one slice, one after another; `ends` has one number for each
+ * member, the place in that slice at which its plan ends.
  *
- * A refusal writes nothing to any slice, except 9 (every lent writable slice but `out` is zero afterwards)
- * and lawcheck_read's 15 and task check (its words are zero afterwards).
+ * A refusal writes nothing to any slice, except 9 (every lent writable slice but `out` is zero
+ * afterwards) and lawcheck_read's 15 and task check (its words are zero afterwards).
  */
 #ifndef LAWCHECK_H
 #define LAWCHECK_H
@@ -102,39 +105,39 @@ enum { LAWCHECK_RUN_COLLIDED = 0, LAWCHECK_RUN_PLACES = 1, LAWCHECK_RUN_SHARED =
 
 /* The task check.
  *
- * Refuses with 1 fewer than five words; 2 F, n, m or the last word of row 0 out of its range; 1 a length
- * other than 5 * (1 + n + m); 4 a bit of I at or above F; then row by row 3 (a goal row's member or its last
- * three words), 4 (a goal bit), 5 (an action's member), 4 (a bit in one of its masks), 6 (wait not within
- * pre). Every function below that takes a task starts with this check.
+ * Refuses with 1 fewer than five words; 2 F, n, m or the last word of row 0 out of its range; 1 a
+ * length other than 5 * (1 + n + m); 4 a bit of I at or above F; then row by row 3 (a goal row's
+ * member or its last three words), 4 (a goal bit), 5 (an action's member), 4 (a bit in one of its
+ * masks), 6 (wait not within pre). Every function below that takes a task starts with this check.
  */
 uint64_t lawcheck_task(const uint64_t *task, size_t task_len);
 
 /* What an action answers at a shared copy, a slice of one word.
  *
  * out: 0 go, 1 wait, 2 collision; the new shared copy after go.
- * Refuses with 14 where shared_len is not 1 or out_len is below 2; the task check; 7 no such action;
- * 4 a bit of the shared copy at or above F.
+ * Refuses with 14 where shared_len is not 1 or out_len is below 2; the task check; 7 no such
+ * action; 4 a bit of the shared copy at or above F.
  */
 uint64_t lawcheck_step(const uint64_t *task, size_t task_len, uint16_t action,
                        const uint64_t *shared, size_t shared_len, uint64_t *out, size_t out_len);
 
 /* A member's plan on its local copy alone.
  *
- * out: 0 solves, 1 breaks, 2 short (all steps done, goal missing); after breaks the index, from 0, of the
- * first step that lacks a precondition.
- * Refuses with 14 where out_len is below 2; the task check; 8 no such member; at the first bad entry 7 no
- * such action, or 10 another member's action.
+ * out: 0 solves, 1 breaks, 2 short (all steps done, goal missing); after breaks the index, from 0,
+ * of the first step that lacks a precondition.
+ * Refuses with 14 where out_len is below 2; the task check; 8 no such member; at the first bad
+ * entry 7 no such action, or 10 another member's action.
  */
 uint64_t lawcheck_solo_replay(const uint64_t *task, size_t task_len, uint8_t member,
                               const uint16_t *plan, size_t plan_len, uint64_t *out, size_t out_len);
 
 /* Every local copy that a member can reach from I, in breadth order, and which of them are live.
  *
- * After an answer the table holds the copies and marks holds 1 for each live one (some steps lead from it to
- * the goal) and 0 for each dead one; unused entries of both are zero.
+ * After an answer the table holds the copies and marks holds 1 for each live one (some steps lead
+ * from it to the goal) and 0 for each dead one; unused entries of both are zero.
  * out: the count of copies; 1 where I is live, else 0.
- * Refuses with 14 where out_len is below 2; the task check; 8 no such member; 14 marks shorter than the table;
- * 9 exactly where the copies exceed the table.
+ * Refuses with 14 where out_len is below 2; the task check; 8 no such member; 14 marks shorter than
+ * the table; 9 exactly where the copies exceed the table.
  */
 uint64_t lawcheck_solo_search(const uint64_t *task, size_t task_len, uint8_t member,
                               uint64_t *table, size_t table_len, uint8_t *marks, size_t marks_len,
@@ -142,38 +145,41 @@ uint64_t lawcheck_solo_search(const uint64_t *task, size_t task_len, uint8_t mem
 
 /* A list of picks from the start of a run.
  *
- * out: 0 success, 1 collision, 2 deadlock, 3 missed, 4 open; after missed the lowest member whose goal does not
- * hold; the number of picks done, a colliding one not counted; the shared copy.
- * Refuses with 14 where out_len is below 4; the task check; 11 ends not n in number, falling, or the last not
- * plans_len; then by member 7 or 10 at its first bad entry, 12 a plan that does not solve; then at the first
- * bad pick 8 no such member, or 13 (no step left, waiting, or already collided).
+ * out: 0 success, 1 collision, 2 deadlock, 3 missed, 4 open; after missed the lowest member whose
+ * goal does not hold; the number of picks done, a colliding one not counted; the shared copy.
+ * Refuses with 14 where out_len is below 4; the task check; 11 ends not n in number, falling, or
+ * the last not plans_len; then by member 7 or 10 at its first bad entry, 12 a plan that does not
+ * solve; then at the first bad pick 8 no such member, or 13 (no step left, waiting, or already
+ * collided).
  */
 uint64_t lawcheck_joint_replay(const uint64_t *task, size_t task_len,
                                const uint16_t *plans, size_t plans_len,
                                const uint64_t *ends, size_t ends_len,
-                               const uint8_t *picks, size_t picks_len, uint64_t *out, size_t out_len);
+                               const uint8_t *picks, size_t picks_len,
+                               uint64_t *out, size_t out_len);
 
 /* One pick on a run that the caller holds.
  *
- * run is ten words: collided where not 0, eight places (one for each member, in its plan; those of members
- * that the task does not have are not looked at), the shared copy. A run starts with 0, places 0 and I. After
- * go the member's place and the shared copy are moved on; after a collision the first word is 1; nothing else
- * of the run is written.
+ * run is ten words: collided where not 0, eight places (one for each member, in its plan; those of
+ * members that the task does not have are not looked at), the shared copy. A run starts with 0,
+ * places 0 and I. After go the member's place and the shared copy are moved on; after a collision
+ * the first word is 1; nothing else of the run is written.
  *
- * Each pick looks at the task and at all plans anew, since it is handed them anew: its time grows with
- * task_len + plans_len, and a run of as many picks as there are steps takes the square of that. Picks that are
- * known beforehand are done by one lawcheck_play, or from the start by lawcheck_joint_replay: both look at the
- * plans once.
+ * Each pick looks at the task and at all plans anew, since it is handed them anew: its time grows
+ * with task_len + plans_len, and a run of as many picks as there are steps takes the square of
+ * that. Picks that are known beforehand are done by one lawcheck_play, or from the start by
+ * lawcheck_joint_replay: both look at the plans once.
  *
  * out: 0 go, 1 collision.
- * Refuses with 14 where run_len is below 10 or out_len below 1; as lawcheck_joint_replay up to 12; 4 a bit of
- * the shared copy at or above F; 11 a place past its plan's end; 8 no such member; 13 (no step left, waiting,
- * or already collided).
+ * Refuses with 14 where run_len is below 10 or out_len below 1; as lawcheck_joint_replay up to 12;
+ * 4 a bit of the shared copy at or above F; 11 a place past its plan's end; 8 no such member; 13
+ * (no step left, waiting, or already collided).
  */
 uint64_t lawcheck_pick(const uint64_t *task, size_t task_len,
                        const uint16_t *plans, size_t plans_len,
                        const uint64_t *ends, size_t ends_len,
-                       uint64_t *run, size_t run_len, uint8_t member, uint64_t *out, size_t out_len);
+                       uint64_t *run, size_t run_len, uint8_t member,
+                       uint64_t *out, size_t out_len);
 
 /* The start of a run: 0, places 0 and I, written to run's ten words.
  *
@@ -181,15 +187,17 @@ uint64_t lawcheck_pick(const uint64_t *task, size_t task_len,
  */
 uint64_t lawcheck_start(const uint64_t *task, size_t task_len, uint64_t *run, size_t run_len);
 
-/* A list of picks on a run that the caller holds, done in turn; the plans are looked at once, and so are the
- * run's words.
+/* A list of picks on a run that the caller holds, done in turn; the plans are looked at once, and
+ * so are the run's words.
  *
- * Each pick meets the run as the last one left it. One that is not possible is passed over and changes nothing.
- * answers has a number for each pick: 0 go, 1 collision, or the refusal that lawcheck_pick has for it there,
- * 8 no such member or 13 (no step left, waiting, or already collided); the rest of it stays as it was. Of the
- * run afterwards the first word is 1 where it has collided, whatever was there before, else 0.
- * Refuses with 14 where run_len is below 10 or answers_len below picks_len; as lawcheck_pick up to 11, a place
- * past its plan's end.
+ * Each pick meets the run as the last one left it. One that is not possible is passed over and
+ * changes nothing.
+ * answers has a number for each pick: 0 go, 1 collision, or the refusal that lawcheck_pick has for
+ * it there, 8 no such member or 13 (no step left, waiting, or already collided); the rest of it
+ * stays as it was. Of the run afterwards the first word is 1 where it has collided, whatever was
+ * there before, else 0.
+ * Refuses with 14 where run_len is below 10 or answers_len below picks_len; as lawcheck_pick up to
+ * 11, a place past its plan's end.
  */
 uint64_t lawcheck_play(const uint64_t *task, size_t task_len,
                        const uint16_t *plans, size_t plans_len,
@@ -199,21 +207,23 @@ uint64_t lawcheck_play(const uint64_t *task, size_t task_len,
 
 /* Whether a law is robust: no choice of solving plans and no order of picks ends in a fault.
  *
- * K = local_len / n rows for each member and C = configurations_len / (n + 1) rows of a configuration (one
- * local copy for each member, then the shared copy), both rounded down.
+ * K = local_len / n rows for each member and C = configurations_len / (n + 1) rows of a
+ * configuration (one local copy for each member, then the shared copy), both rounded down.
  *
- * After an answer the local table and the marks hold what lawcheck_solo_search gives, member i's from row
- * i * K; the configuration table holds the configurations in breadth order (none after unsolvable); unused
- * entries are zero. The trail is room to work in and holds anything. After a fault plans, ends and picks hold a
- * conflict, then zeros: the plans, the end of each, and the picks with a colliding one last. Its replay by
- * lawcheck_joint_replay, lent the plans up to the last end, n ends, and the picks up to the number with a
- * colliding one after them, ends in that kind, member and number. Where there is no fault all three are zero.
+ * After an answer the local table and the marks hold what lawcheck_solo_search gives, member i's
+ * from row i * K; the configuration table holds the configurations in breadth order (none after
+ * unsolvable); unused entries are zero. The trail is room to work in and holds anything. After a
+ * fault plans, ends and picks hold a conflict, then zeros: the plans, the end of each, and the
+ * picks with a colliding one last. Its replay by lawcheck_joint_replay, lent the plans up to the
+ * last end, n ends, and the picks up to the number with a colliding one after them, ends in that
+ * kind, member and number. Where there is no fault all three are zero.
  *
- * out: 0 robust, 1 unsolvable, 2 collision, 3 deadlock, 4 missed; the member (unsolvable: the lowest whose I
- * is dead; missed); the number (robust: configurations; a fault: picks done before it).
- * Refuses with 14 where out_len is below 3; the task check; 14 where marks_len < n * K, trail_len < 2 * C,
- * plans_len < C + n * K, ends_len < n or picks_len < C; 9 exactly where a member's copies exceed K or, all
- * members being live, the configurations exceed C.
+ * out: 0 robust, 1 unsolvable, 2 collision, 3 deadlock, 4 missed; the member (unsolvable: the
+ * lowest whose I is dead; missed); the number (robust: configurations; a fault: picks done before
+ * it).
+ * Refuses with 14 where out_len is below 3; the task check; 14 where marks_len < n * K, trail_len <
+ * 2 * C, plans_len < C + n * K, ends_len < n or picks_len < C; 9 exactly where a member's copies
+ * exceed K or, all members being live, the configurations exceed C.
  */
 uint64_t lawcheck_verdict(const uint64_t *task, size_t task_len,
                           uint64_t *local, size_t local_len, uint8_t *marks, size_t marks_len,
@@ -222,12 +232,14 @@ uint64_t lawcheck_verdict(const uint64_t *task, size_t task_len,
                           uint64_t *ends, size_t ends_len, uint8_t *picks, size_t picks_len,
                           uint64_t *out, size_t out_len);
 
-/* Reads a task from text: RFC 4180, five fields a record, no header, no quotes, at most 265 records. A field is
- * digits without a leading zero, at most 2^64 - 1. Each record ends in CR LF, which the last may lack.
+/* Reads a task from text: RFC 4180, five fields a record, no header, no quotes, at most 265
+ * records. A field is digits without a leading zero, at most 2^64 - 1. Each record ends in CR LF,
+ * which the last may lack.
  *
  * After an answer the words hold the task, then zeros.
  * out: the number of records.
- * Refuses with 14 where out_len is below 1 or words_len below 1325; 15 a text not as above; the task check.
+ * Refuses with 14 where out_len is below 1 or words_len below 1325; 15 a text not as above; the
+ * task check.
  */
 uint64_t lawcheck_read(const uint8_t *text, size_t text_len, uint64_t *words, size_t words_len,
                        uint64_t *out, size_t out_len);

@@ -19,7 +19,8 @@ pub fn grid(lengths: &[usize]) -> Law {
     chains_of(lengths)
 }
 
-/// A grid in which the last member's last step takes the first member's goal away: missed in the end.
+/// A grid in which the last member's last step takes the first member's goal away: missed in the
+/// end.
 pub fn grid_with_fault(lengths: &[usize]) -> Law {
     let mut law = chains_of(lengths);
     let goal = law.goals[0];
@@ -35,7 +36,8 @@ pub fn long_run(steps: usize) -> (Law, Vec<u16>, Vec<u64>, Vec<u8>) {
     let each = steps / 8;
     let (mut plans, mut ends) = (Vec::new(), Vec::new());
     for member in 0..8 {
-        // Actions 2i and 2i + 1 of member i set its fact and clear it; the goal asks that it stands.
+        // Actions 2i and 2i + 1 of member i set its fact and clear it; the goal asks that it
+        // stands.
         plans.extend((0..each).map(|step| (2 * member + step % 2) as u16));
         if each.is_multiple_of(2) {
             plans.push((2 * member) as u16);
@@ -59,7 +61,9 @@ pub fn wide_text(records: usize) -> String {
         facts: 64,
         initial: wide,
         goals: vec![wide; members],
-        actions: (0..records - 1 - members).map(|a| [(a % 8) as u64, wide, wide, wide, wide]).collect(),
+        actions: (0..records - 1 - members)
+            .map(|a| [(a % 8) as u64, wide, wide, wide, wide])
+            .collect(),
     };
     text::of_words(&law.words())
 }

@@ -1,9 +1,11 @@
-//! Benchmarks: the C interface beside the fast twin, same input, both built for release, in one run.
+//! Benchmarks: the C interface beside the fast twin, same input, both built for release, in one
+//! run.
 //!
-//! It prints Markdown tables. A line has the operation, the law, its rows (local copies, configurations, steps
-//! or records), its actions, the ratio of times (the library's to the twin's: above 1 the twin is faster) and
-//! its spread; where the table is about growth also each side's time beside its own in the group's first line.
-//! With the argument `short` each measurement is short, to see that all of them run.
+//! It prints Markdown tables. A line has the operation, the law, its rows (local copies,
+//! configurations, steps or records), its actions, the ratio of times (the library's to the twin's:
+//! above 1 the twin is faster) and its spread; where the table is about growth also each side's
+//! time beside its own in the group's first line. With the argument `short` each measurement is
+//! short, to see that all of them run.
 #![forbid(unsafe_code)]
 
 // Brings the functions that the wrapper declares.
@@ -53,7 +55,10 @@ impl Measured {
     fn line(&self) -> String {
         let Measured { operation, law, rows, actions, times } = self;
         let spread = 100.0 * times.spread;
-        format!("| {operation} | {law} | {rows} | {actions} | {} | {spread:.0} %", figure(times.ratio))
+        format!(
+            "| {operation} | {law} | {rows} | {actions} | {} | {spread:.0} %",
+            figure(times.ratio)
+        )
     }
 }
 
@@ -87,9 +92,19 @@ impl Bench {
         }
 
         growth("Growth with rows");
-        grows((4..=12).map(|facts| self.solo_search("one member", laws::repeated(laws::counter(facts), 24))));
-        grows((4..=12).map(|facts| self.verdict("one member", laws::repeated(laws::counter(facts), 24))));
-        grows([4, 6, 8, 10, 12].map(|length| self.verdict("cube", laws::grid(&[length, length, length]))));
+        grows(
+            (4..=12).map(|facts| {
+                self.solo_search("one member", laws::repeated(laws::counter(facts), 24))
+            }),
+        );
+        grows(
+            (4..=12)
+                .map(|facts| self.verdict("one member", laws::repeated(laws::counter(facts), 24))),
+        );
+        grows(
+            [4, 6, 8, 10, 12]
+                .map(|length| self.verdict("cube", laws::grid(&[length, length, length]))),
+        );
         let steps = [256, 1024, 4096, 16_384];
         grows(steps.map(|steps| self.solo_replay(steps)));
         grows(steps.map(|steps| self.joint_replay(steps)));
@@ -107,7 +122,8 @@ impl Bench {
         grows([21, 42, 84, 168, 252].map(|actions| self.verdict("cube of 512", cube(actions))));
     }
 
-    /// What a person waits for: a run of the command on a law that fills the tables, beside the verdict alone.
+    /// What a person waits for: a run of the command on a law that fills the tables, beside the
+    /// verdict alone.
     fn whole_run(&self) {
         let words = command::law();
         let mut twin = Slices::new(Side::Twin);
@@ -121,12 +137,15 @@ impl Bench {
         };
         line("the library's verdict on its words", verdict);
         for what in [command::PROGRAM, command::COMMAND] {
-            line(&format!("`{what}`"), self.budget.measure(|| command::run(what), || twin.verdict(&words)));
+            line(
+                &format!("`{what}`"),
+                self.budget.measure(|| command::run(what), || twin.verdict(&words)),
+            );
         }
     }
 
-    /// Runs an operation on both sides, asks for one answer, then times both on the same slices: warm, and each
-    /// run finds in the slices what the last one left.
+    /// Runs an operation on both sides, asks for one answer, then times both on the same slices:
+    /// warm, and each run finds in the slices what the last one left.
     fn measure(
         &self,
         operation: &'static str,
@@ -140,8 +159,9 @@ impl Bench {
         run(&mut twin);
         assert_eq!(library.returned, 0, "{operation} on {law} is refused");
         assert!(library.agree(&twin), "{operation} on {law}: the answers differ");
-        let rows = [&library, &twin]
-            .map(|slices| check(slices).unwrap_or_else(|wrong| panic!("{operation} on {law}: {wrong}")));
+        let rows = [&library, &twin].map(|slices| {
+            check(slices).unwrap_or_else(|wrong| panic!("{operation} on {law}: {wrong}"))
+        });
         assert_eq!(rows[0], rows[1], "{operation} on {law}: the answers differ");
         let times = self.budget.measure(|| run(&mut library), || run(&mut twin));
         assert!(library.agree(&twin), "{operation} on {law}: a later answer differs");
@@ -152,7 +172,13 @@ impl Bench {
         let law = laws::repeated(laws::counter(8), actions);
         let words = law.words();
         let rows = 2 + actions;
-        self.measure("task check", "one member", actions, |slices| slices.task(&words), |_| Ok(rows))
+        self.measure(
+            "task check",
+            "one member",
+            actions,
+            |slices| slices.task(&words),
+            |_| Ok(rows),
+        )
     }
 
     /// The last action, at a shared copy at which it goes.
@@ -173,7 +199,9 @@ impl Bench {
     fn solo_search(&self, name: &'static str, law: Law) -> Measured {
         let words = law.words();
         let run = |slices: &mut Slices| slices.solo_search(&words);
-        self.measure("solo search", name, law.actions.len(), run, |slices| Ok(slices.out[0] as usize))
+        self.measure("solo search", name, law.actions.len(), run, |slices| {
+            Ok(slices.out[0] as usize)
+        })
     }
 
     fn verdict(&self, name: &'static str, law: Law) -> Measured {
@@ -205,7 +233,9 @@ impl Bench {
         let (law, plans, ends, _) = laws::long_run(steps);
         let words = law.words();
         let run = |slices: &mut Slices| slices.pick(&words, &plans, &ends);
-        self.measure("one pick", "eight members in turn", law.actions.len(), run, |_| Ok(plans.len()))
+        self.measure("one pick", "eight members in turn", law.actions.len(), run, |_| {
+            Ok(plans.len())
+        })
     }
 
     /// One pick and the replay of all, both by the library.
@@ -213,9 +243,10 @@ impl Bench {
         let (law, plans, ends, picks) = laws::long_run(steps);
         let words = law.words();
         let [mut one, mut all] = [Side::Library, Side::Library].map(Slices::new);
-        let times = self
-            .budget
-            .measure(|| one.pick(&words, &plans, &ends), || all.joint_replay(&words, &plans, &ends, &picks));
+        let times = self.budget.measure(
+            || one.pick(&words, &plans, &ends),
+            || all.joint_replay(&words, &plans, &ends, &picks),
+        );
         assert_eq!((one.returned, all.returned), (0, 0), "a pick or a replay is refused");
         (plans.len(), times)
     }

@@ -82,10 +82,20 @@ impl Slices {
     pub fn verdict(&mut self, task: &[u64]) {
         let Slices { local, marks, configurations, trail, plans, ends, picks, out, .. } = self;
         self.returned = match self.side {
-            Side::Library => {
-                lawcheck::raw::verdict(task, local, marks, configurations, trail, plans, ends, picks, out)
+            Side::Library => lawcheck::raw::verdict(
+                task,
+                local,
+                marks,
+                configurations,
+                trail,
+                plans,
+                ends,
+                picks,
+                out,
+            ),
+            Side::Twin => {
+                Fast.verdict(task, local, marks, configurations, trail, plans, ends, picks, out)
             }
-            Side::Twin => Fast.verdict(task, local, marks, configurations, trail, plans, ends, picks, out),
         };
     }
 
@@ -114,8 +124,8 @@ impl Slices {
         };
     }
 
-    /// The configurations that a verdict listed, in rows of this many words; after a fault those that are not
-    /// all zeros, which no law here has.
+    /// The configurations that a verdict listed, in rows of this many words; after a fault those
+    /// that are not all zeros, which no law here has.
     pub fn configurations(&self, width: usize) -> usize {
         if self.out[0] == 0 {
             return self.out[2] as usize;
@@ -123,8 +133,8 @@ impl Slices {
         self.configurations.chunks(width).filter(|row| row.iter().any(|&word| word != 0)).count()
     }
 
-    /// Whether both hold one answer: the return, the numbers, every table and the run. A conflict is free, and
-    /// is not looked at here.
+    /// Whether both hold one answer: the return, the numbers, every table and the run. A conflict
+    /// is free, and is not looked at here.
     pub fn agree(&self, other: &Slices) -> bool {
         self.returned == other.returned
             && self.out == other.out
@@ -135,7 +145,8 @@ impl Slices {
             && self.run == other.run
     }
 
-    /// Whether the conflict slices hold what the verdict's answer asks: a conflict that replays to it, or zeros.
+    /// Whether the conflict slices hold what the verdict's answer asks: a conflict that replays to
+    /// it, or zeros.
     pub fn conflict(&self, task: &[u64]) -> Result<(), String> {
         let members = task[1] as usize;
         let listed = self.configurations(members + 1);

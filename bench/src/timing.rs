@@ -4,7 +4,8 @@ use std::time::{Duration, Instant};
 
 /// A round lasts at least so long on each side, so that the clock's steps do not count.
 const ROUND: Duration = Duration::from_millis(2);
-/// A block has at least so many rounds and lasts at least so long. Its times are the shortest of its rounds.
+/// A block has at least so many rounds and lasts at least so long. Its times are the shortest of
+/// its rounds.
 const ROUNDS: usize = 3;
 const BLOCK: Duration = Duration::from_millis(40);
 /// The blocks, the last ones, whose ratios are looked at.
@@ -55,7 +56,12 @@ impl Budget {
                 }
             };
             if done {
-                return Times { first: best[0], second: best[1], ratio: median(last), spread: spread(last) };
+                return Times {
+                    first: best[0],
+                    second: best[1],
+                    ratio: median(last),
+                    spread: spread(last),
+                };
             }
         }
     }

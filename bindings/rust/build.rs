@@ -1,6 +1,7 @@
-//! Links the static library of the C interface: the archive that LAWCHECK_LIBRARY names (as an installed
-//! `liblawcheck.a`), or the repository's `target/staticlib/libcapi.a`. With the feature `unlinked` nothing; a
-//! build that names a library refuses that feature, so that nothing else stands in the library's place.
+//! Links the static library of the C interface: the archive that LAWCHECK_LIBRARY names (as an
+//! installed `liblawcheck.a`), or the repository's `target/staticlib/libcapi.a`. With the feature
+//! `unlinked` nothing; a build that names a library refuses that feature, so that nothing else
+//! stands in the library's place.
 
 use std::env;
 use std::path::{Path, PathBuf};
@@ -11,7 +12,9 @@ fn main() {
     let named = env::var_os("LAWCHECK_LIBRARY");
     if env::var_os("CARGO_FEATURE_UNLINKED").is_some() {
         if named.is_some() {
-            eprintln!("error: LAWCHECK_LIBRARY names a library, and the feature unlinked links none.");
+            eprintln!(
+                "error: LAWCHECK_LIBRARY names a library, and the feature unlinked links none."
+            );
             eprintln!("Build without the feature (mock turns it on), or without the variable.");
             exit(1);
         }
@@ -20,7 +23,8 @@ fn main() {
     let archive = match named {
         Some(path) => PathBuf::from(path),
         None => {
-            let package = env::var_os("CARGO_MANIFEST_DIR").expect("cargo names the package's folder");
+            let package =
+                env::var_os("CARGO_MANIFEST_DIR").expect("cargo names the package's folder");
             Path::new(&package).join("../../target/staticlib/libcapi.a")
         }
     };
@@ -31,7 +35,10 @@ fn main() {
         exit(1);
     };
     let folder = archive.parent().expect("a file stands in a folder");
-    let name = archive.file_stem().and_then(|stem| stem.to_str()).and_then(|stem| stem.strip_prefix("lib"));
+    let name = archive
+        .file_stem()
+        .and_then(|stem| stem.to_str())
+        .and_then(|stem| stem.strip_prefix("lib"));
     let Some(name) = name else {
         eprintln!("error: {} is not named like libNAME.a.", archive.display());
         exit(1);

@@ -1,5 +1,5 @@
-/* A settlement runner in small: it checks a law, holds one run, picks members in turn and reports how the run
- * ended. The last line is 'N passed, M failed'. */
+/* A settlement runner in small: it checks a law, holds one run, picks members in turn and
+ * reports how the run ended. The last line is 'N passed, M failed'. */
 
 #include <lawcheck.h>
 #include <stdbool.h>
@@ -74,7 +74,8 @@ static uint64_t pick(struct runner *runner, uint8_t member, uint64_t *answer)
     return refusal;
 }
 
-/* Picks the members in turn until none can be picked. False where a pick is refused for another reason. */
+/* Picks the members in turn until none can be picked. False where a pick is refused for another
+ * reason. */
 static bool finish(struct runner *runner)
 {
     bool moved = true;
@@ -206,7 +207,8 @@ static void run_to_collision(void)
            "its conflict replays");
     start(&runner, law, WORDS, plans, 4, ends);
     expect(pick(&runner, 0, &answer) == 0 && answer == LAWCHECK_PICK_GO, "member 0 goes");
-    expect(pick(&runner, 1, &answer) == 0 && answer == LAWCHECK_PICK_COLLISION, "member 1 collides");
+    expect(pick(&runner, 1, &answer) == 0 && answer == LAWCHECK_PICK_COLLISION,
+           "member 1 collides");
     expect(runner.run[LAWCHECK_RUN_COLLIDED] == 1 && runner.run[LAWCHECK_RUN_PLACES + 1] == 0 &&
                runner.run[LAWCHECK_RUN_SHARED] == 2,
            "a collision changes neither copy nor place");

@@ -1,7 +1,8 @@
 //! A safe wrapper of the law checker's C interface, which `include/lawcheck.h` documents.
 //!
-//! Each function here has one of the header's functions under it: an answer is an enum or a struct, a refusal
-//! is a [`Refusal`]. [`raw`] has the same functions with the header's numbers and slices, and its constants.
+//! Each function here has one of the header's functions under it: an answer is an enum or a struct,
+//! a refusal is a [`Refusal`]. [`raw`] has the same functions with the header's numbers and slices,
+//! and its constants.
 #![deny(unsafe_code)]
 
 #[allow(unsafe_code)]
@@ -178,7 +179,12 @@ pub struct Replay {
 }
 
 /// A list of picks from the start of a run.
-pub fn joint_replay(task: &[u64], plans: &[u16], ends: &[u64], picks: &[u8]) -> Result<Replay, Refusal> {
+pub fn joint_replay(
+    task: &[u64],
+    plans: &[u16],
+    ends: &[u64],
+    picks: &[u8],
+) -> Result<Replay, Refusal> {
     let mut out = [0; raw::JOINT_REPLAY_OUT];
     answered(raw::joint_replay(task, plans, ends, picks, &mut out))?;
     let outcome = match out[0] {
@@ -192,7 +198,8 @@ pub fn joint_replay(task: &[u64], plans: &[u16], ends: &[u64], picks: &[u8]) -> 
     Ok(Replay { outcome, picks: out[2], shared: out[3] })
 }
 
-/// A run that the caller holds: whether it has collided, each member's place in its plan, the shared copy.
+/// A run that the caller holds: whether it has collided, each member's place in its plan, the
+/// shared copy.
 #[derive(Clone, Debug, PartialEq, Eq)]
 pub struct Run {
     words: [u64; raw::RUN_WORDS],
@@ -228,9 +235,15 @@ impl Run {
         self.words[raw::RUN_SHARED]
     }
 
-    /// Does a member's next step. Each pick looks at all plans anew; [`Run::play`] does a list of picks and
-    /// looks at them once.
-    pub fn pick(&mut self, task: &[u64], plans: &[u16], ends: &[u64], member: u8) -> Result<Picked, Refusal> {
+    /// Does a member's next step. Each pick looks at all plans anew; [`Run::play`] does a list of
+    /// picks and looks at them once.
+    pub fn pick(
+        &mut self,
+        task: &[u64],
+        plans: &[u16],
+        ends: &[u64],
+        member: u8,
+    ) -> Result<Picked, Refusal> {
         let mut out = [0; raw::PICK_OUT];
         answered(raw::pick(task, plans, ends, &mut self.words, member, &mut out))?;
         Ok(match out[0] {
@@ -242,8 +255,8 @@ impl Run {
 }
 
 impl Run {
-    /// Does picks in turn, each where the last one left the run: what each answers, a refusal for one that is
-    /// not possible there and was passed over.
+    /// Does picks in turn, each where the last one left the run: what each answers, a refusal for
+    /// one that is not possible there and was passed over.
     pub fn play(
         &mut self,
         task: &[u64],
@@ -309,7 +322,8 @@ pub struct Room {
 }
 
 impl Room {
-    /// Room for a task of so many members: so many local copies of each, and so many configurations.
+    /// Room for a task of so many members: so many local copies of each, and so many
+    /// configurations.
     pub fn new(members: usize, copies: usize, configurations: usize) -> Room {
         Room {
             local: vec![0; members * copies],
@@ -322,8 +336,8 @@ impl Room {
         }
     }
 
-    /// After a fault: the plans up to the last end, and the picks, a colliding one included. They are what
-    /// [`joint_replay`] is lent, with the ends.
+    /// After a fault: the plans up to the last end, and the picks, a colliding one included. They
+    /// are what [`joint_replay`] is lent, with the ends.
     pub fn conflict(&self, verdict: Verdict) -> Option<(&[u16], &[u8])> {
         let picks = match verdict {
             Verdict::Collision { picks } => picks + 1,
@@ -339,7 +353,17 @@ impl Room {
 pub fn verdict(task: &[u64], room: &mut Room) -> Result<Verdict, Refusal> {
     let mut out = [0; raw::VERDICT_OUT];
     let Room { local, marks, configurations, trail, plans, ends, picks } = room;
-    answered(raw::verdict(task, local, marks, configurations, trail, plans, ends, picks, &mut out))?;
+    answered(raw::verdict(
+        task,
+        local,
+        marks,
+        configurations,
+        trail,
+        plans,
+        ends,
+        picks,
+        &mut out,
+    ))?;
     let (member, number) = (out[1] as u8, out[2]);
     Ok(match out[0] {
         raw::ROBUST => Verdict::Robust { configurations: number },

@@ -1,5 +1,6 @@
-//! The header's functions and constants as they are. A slice passes as pointer and length; each function gives
-//! a refusal's number, or 0 for an answer, whose numbers stand at the front of `out`.
+//! The header's functions and constants as they are. A slice passes as pointer and length; each
+//! function gives a refusal's number, or 0 for an answer, whose numbers stand at the front of
+//! `out`.
 
 use crate::foreign::*;
 
@@ -14,10 +15,10 @@ macro_rules! constants {
 }
 
 constants! {
-    u64: LENGTH = 1, RANGE = 2, GOAL_ROW = 3, FACT = 4, OWNER = 5, WAIT = 6, ACTION = 7, MEMBER = 8, FULL = 9,
-        OTHERS = 10, ENDS = 11, NO_SOLUTION = 12, PICK = 13, SHORT = 14, TEXT = 15;
-    usize: STEP_OUT = 2, SOLO_REPLAY_OUT = 2, SOLO_SEARCH_OUT = 2, JOINT_REPLAY_OUT = 4, PICK_OUT = 1,
-        VERDICT_OUT = 3, READ_OUT = 1, RUN_WORDS = 10, TEXT_WORDS = 1325;
+    u64: LENGTH = 1, RANGE = 2, GOAL_ROW = 3, FACT = 4, OWNER = 5, WAIT = 6, ACTION = 7, MEMBER = 8,
+        FULL = 9, OTHERS = 10, ENDS = 11, NO_SOLUTION = 12, PICK = 13, SHORT = 14, TEXT = 15;
+    usize: STEP_OUT = 2, SOLO_REPLAY_OUT = 2, SOLO_SEARCH_OUT = 2, JOINT_REPLAY_OUT = 4,
+        PICK_OUT = 1, VERDICT_OUT = 3, READ_OUT = 1, RUN_WORDS = 10, TEXT_WORDS = 1325;
     u64: STEP_GO = 0, STEP_WAIT = 1, STEP_COLLISION = 2;
     u64: SOLVES = 0, BREAKS = 1, GOAL_SHORT = 2;
     u64: RUN_SUCCESS = 0, RUN_COLLISION = 1, RUN_DEADLOCK = 2, RUN_MISSED = 3, RUN_OPEN = 4;
@@ -62,7 +63,13 @@ pub fn solo_replay(task: &[u64], member: u8, plan: &[u16], out: &mut [u64]) -> u
 }
 
 /// A member's reachable local copies and live marks. `out`: the count; 1 where I is live.
-pub fn solo_search(task: &[u64], member: u8, table: &mut [u64], marks: &mut [u8], out: &mut [u64]) -> u64 {
+pub fn solo_search(
+    task: &[u64],
+    member: u8,
+    table: &mut [u64],
+    marks: &mut [u8],
+    out: &mut [u64],
+) -> u64 {
     unsafe {
         lawcheck_solo_search(
             task.as_ptr(),
@@ -78,9 +85,15 @@ pub fn solo_search(task: &[u64], member: u8, table: &mut [u64], marks: &mut [u8]
     }
 }
 
-/// A list of picks from the start. `out`: 0 success, 1 collision, 2 deadlock, 3 missed, 4 open; the member;
-/// the picks done; the shared copy.
-pub fn joint_replay(task: &[u64], plans: &[u16], ends: &[u64], picks: &[u8], out: &mut [u64]) -> u64 {
+/// A list of picks from the start. `out`: 0 success, 1 collision, 2 deadlock, 3 missed, 4 open; the
+/// member; the picks done; the shared copy.
+pub fn joint_replay(
+    task: &[u64],
+    plans: &[u16],
+    ends: &[u64],
+    picks: &[u8],
+    out: &mut [u64],
+) -> u64 {
     unsafe {
         lawcheck_joint_replay(
             task.as_ptr(),
@@ -98,7 +111,14 @@ pub fn joint_replay(task: &[u64], plans: &[u16], ends: &[u64], picks: &[u8], out
 }
 
 /// A pick on a run of ten words: collided, eight places, the shared copy. `out`: 0 go, 1 collision.
-pub fn pick(task: &[u64], plans: &[u16], ends: &[u64], run: &mut [u64], member: u8, out: &mut [u64]) -> u64 {
+pub fn pick(
+    task: &[u64],
+    plans: &[u16],
+    ends: &[u64],
+    run: &mut [u64],
+    member: u8,
+    out: &mut [u64],
+) -> u64 {
     unsafe {
         lawcheck_pick(
             task.as_ptr(),
@@ -121,7 +141,8 @@ pub fn start(task: &[u64], run: &mut [u64]) -> u64 {
     unsafe { lawcheck_start(task.as_ptr(), task.len(), run.as_mut_ptr(), run.len()) }
 }
 
-/// Picks on a run in turn, impossible ones passed over. `answers`: 0 go, 1 collision, 8 or 13 for each pick.
+/// Picks on a run in turn, impossible ones passed over. `answers`: 0 go, 1 collision, 8 or 13 for
+/// each pick.
 #[allow(clippy::too_many_arguments)]
 pub fn play(
     task: &[u64],
@@ -149,8 +170,8 @@ pub fn play(
     }
 }
 
-/// The verdict. `out`: 0 robust, 1 unsolvable, 2 collision, 3 deadlock, 4 missed; the member; the count of
-/// configurations or the picks done.
+/// The verdict. `out`: 0 robust, 1 unsolvable, 2 collision, 3 deadlock, 4 missed; the member; the
+/// count of configurations or the picks done.
 #[allow(clippy::too_many_arguments)]
 pub fn verdict(
     task: &[u64],
@@ -190,6 +211,13 @@ pub fn verdict(
 /// A text's words. `out`: the number of records.
 pub fn read(text: &[u8], words: &mut [u64], out: &mut [u64]) -> u64 {
     unsafe {
-        lawcheck_read(text.as_ptr(), text.len(), words.as_mut_ptr(), words.len(), out.as_mut_ptr(), out.len())
+        lawcheck_read(
+            text.as_ptr(),
+            text.len(),
+            words.as_mut_ptr(),
+            words.len(),
+            out.as_mut_ptr(),
+            out.len(),
+        )
     }
 }

@@ -117,7 +117,13 @@ impl Comparison {
                 differences: self.differences,
             }
         });
-        Checked { operation: self.operation, class, brute: self.brute, played: self.played, failure }
+        Checked {
+            operation: self.operation,
+            class,
+            brute: self.brute,
+            played: self.played,
+            failure,
+        }
     }
 }
 
@@ -136,7 +142,8 @@ const PRINTED: usize = 400;
 /// A slice as text, a long one by its front and its length.
 pub fn list<T: Cell>(cells: &[T]) -> String {
     let printed: Vec<String> = cells.iter().take(PRINTED).map(T::to_string).collect();
-    let rest = if cells.len() > PRINTED { format!(" .. {} in all", cells.len()) } else { String::new() };
+    let rest =
+        if cells.len() > PRINTED { format!(" .. {} in all", cells.len()) } else { String::new() };
     format!("[{}{rest}]", printed.join(" "))
 }
 
@@ -160,7 +167,11 @@ impl fmt::Display for Failure {
         match &self.input {
             Input::Task(words) => {
                 if words.len() % 5 != 0 {
-                    writeln!(to, "the task has {} words, and its last record is short:", words.len())?;
+                    writeln!(
+                        to,
+                        "the task has {} words, and its last record is short:",
+                        words.len()
+                    )?;
                 }
                 let text = text::of_words(words);
                 write!(to, "{text}")?;

@@ -62,7 +62,9 @@ impl Coverage {
         let mut lines = Vec::new();
         for (operation, ..) in ASKED {
             let mut line = format!("{operation}:");
-            for ((_, class), count) in self.counts.iter().filter(|((name, _), _)| *name == operation) {
+            for ((_, class), count) in
+                self.counts.iter().filter(|((name, _), _)| *name == operation)
+            {
                 line += &match class {
                     Class::Answer(number) => format!(" answer {number} {count},"),
                     Class::Refusal(number) => format!(" refusal {number} {count},"),

@@ -38,8 +38,9 @@ pub fn run(checked: &impl Interface, options: Options) -> Summary {
     let next = AtomicU64::new(0);
     let mut summary = Summary::default();
     thread::scope(|scope| {
-        let threads: Vec<_> =
-            (0..options.threads.max(1)).map(|_| scope.spawn(|| part(checked, options, &next))).collect();
+        let threads: Vec<_> = (0..options.threads.max(1))
+            .map(|_| scope.spawn(|| part(checked, options, &next)))
+            .collect();
         for thread in threads {
             let part = thread.join().expect("a thread ends by itself");
             summary.passed += part.passed;

@@ -1,7 +1,8 @@
 //! `compare [--cases N] [--seed S] [--threads T] [--case I]`
 //!
-//! LAWCHECK_CASES and LAWCHECK_SEED stand for the first two. `--case` runs one case alone. The last line is
-//! 'N passed, M failed', and the exit status is 0 only where none failed, 2 where an argument is wrong.
+//! LAWCHECK_CASES and LAWCHECK_SEED stand for the first two. `--case` runs one case alone. The last
+//! line is 'N passed, M failed', and the exit status is 0 only where none failed, 2 where an
+//! argument is wrong.
 #![forbid(unsafe_code)]
 
 mod proved;
@@ -70,7 +71,10 @@ fn number(name: &str, text: &str, least: u64) -> Result<u64, String> {
     let digits = text.bytes().all(|byte| byte.is_ascii_digit());
     match text.parse() {
         Ok(number) if digits && number >= least => Ok(number),
-        _ => Err(format!("{name} has to be a whole number from {least} to {}, not '{text}'", u64::MAX)),
+        _ => Err(format!(
+            "{name} has to be a whole number from {least} to {}, not '{text}'",
+            u64::MAX
+        )),
     }
 }
 

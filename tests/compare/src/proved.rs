@@ -29,7 +29,14 @@ impl Interface for Proved {
         lawcheck::raw::solo_search(task, member, table, marks, out)
     }
 
-    fn joint_replay(&self, task: &[u64], plans: &[u16], ends: &[u64], picks: &[u8], out: &mut [u64]) -> u64 {
+    fn joint_replay(
+        &self,
+        task: &[u64],
+        plans: &[u16],
+        ends: &[u64],
+        picks: &[u8],
+        out: &mut [u64],
+    ) -> u64 {
         lawcheck::raw::joint_replay(task, plans, ends, picks, out)
     }
 

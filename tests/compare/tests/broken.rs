@@ -137,7 +137,14 @@ impl Interface for Broken {
         self.refused(refusal, out)
     }
 
-    fn joint_replay(&self, task: &[u64], plans: &[u16], ends: &[u64], picks: &[u8], out: &mut [u64]) -> u64 {
+    fn joint_replay(
+        &self,
+        task: &[u64],
+        plans: &[u16],
+        ends: &[u64],
+        picks: &[u8],
+        out: &mut [u64],
+    ) -> u64 {
         let refusal = Fast.joint_replay(task, plans, ends, picks, out);
         match (self, refusal) {
             (JointCountsTheCollision, 0) if out[0] == 1 => out[2] += 1,
@@ -239,7 +246,8 @@ impl Interface for Broken {
         out: &mut [u64],
     ) -> u64 {
         let first = trail.first().copied();
-        let refusal = Fast.verdict(task, local, marks, configurations, trail, plans, ends, picks, out);
+        let refusal =
+            Fast.verdict(task, local, marks, configurations, trail, plans, ends, picks, out);
         match (self, refusal) {
             (VerdictRobust, 0) if out[0] > 1 => {
                 out[..out_length::VERDICT].copy_from_slice(&[0, 0, 1]);
@@ -275,12 +283,14 @@ impl Interface for Broken {
         match (self, refusal) {
             (ReadWordsLeft, 15) => slice.copy_from_slice(&before),
             (ReadLeadingZero, 15) => {
-                let plain = String::from_utf8_lossy(text).replace(",00,", ",0,").replace(",01,", ",1,");
+                let plain =
+                    String::from_utf8_lossy(text).replace(",00,", ",0,").replace(",01,", ",1,");
                 return Fast.read(plain.as_bytes(), slice, out);
             }
             (ReadLongWordsUncleared, 0) => slice[1325..].copy_from_slice(&before[1325..]),
             (ReadLineFeedAlone, 15) => {
-                let plain = String::from_utf8_lossy(text).replace("\r\n", "\n").replace('\n', "\r\n");
+                let plain =
+                    String::from_utf8_lossy(text).replace("\r\n", "\n").replace('\n', "\r\n");
                 return Fast.read(plain.as_bytes(), slice, out);
             }
             _ => {}

@@ -7,7 +7,8 @@ use std::process::Command;
 fn compare(arguments: &[&str], variables: &[(&str, &str)]) -> (Option<i32>, String, String) {
     let mut command = Command::new(env!("CARGO_BIN_EXE_compare"));
     command.env_remove("LAWCHECK_CASES").env_remove("LAWCHECK_SEED");
-    let run = command.args(arguments).envs(variables.iter().copied()).output().expect("compare runs");
+    let run =
+        command.args(arguments).envs(variables.iter().copied()).output().expect("compare runs");
     let text = |bytes: Vec<u8>| String::from_utf8(bytes).expect("text");
     (run.status.code(), text(run.stdout), text(run.stderr))
 }

@@ -1,5 +1,5 @@
-//! The comparison finds implementations that look for refusals in another order than the written one: the fast
-//! twin with one pair exchanged in each.
+//! The comparison finds implementations that look for refusals in another order than the written
+//! one: the fast twin with one pair exchanged in each.
 
 #[macro_use]
 mod listed;
@@ -79,8 +79,16 @@ impl Interface for Exchanged {
             (InitialThenLength, 1, _) if task.len() >= 5 && exceeds(task, task[3]) => 4,
             (GoalThenInitial, 4, _) if exceeds(task, task[3]) && task[5] != 0 => 3,
             (GoalBitThenGoalRow, 3, Some(row)) if exceeds(task, row[1]) => 4,
-            (ActionBitThenOwner, 5, Some(row)) if row[1..].iter().any(|&mask| exceeds(task, mask)) => 4,
-            (WaitThenActionBit, 4, Some(row)) if !exceeds(task, task[3]) && row[2] & !row[1] != 0 => 6,
+            (ActionBitThenOwner, 5, Some(row))
+                if row[1..].iter().any(|&mask| exceeds(task, mask)) =>
+            {
+                4
+            }
+            (WaitThenActionBit, 4, Some(row))
+                if !exceeds(task, task[3]) && row[2] & !row[1] != 0 =>
+            {
+                6
+            }
             _ => refusal,
         }
     }
@@ -134,7 +142,14 @@ impl Interface for Exchanged {
         }
     }
 
-    fn joint_replay(&self, task: &[u64], plans: &[u16], ends: &[u64], picks: &[u8], out: &mut [u64]) -> u64 {
+    fn joint_replay(
+        &self,
+        task: &[u64],
+        plans: &[u16],
+        ends: &[u64],
+        picks: &[u8],
+        out: &mut [u64],
+    ) -> u64 {
         let unknown = |&entry: &u16| entry as u64 >= task[2];
         let absent = |&member: &u8| member as u64 >= task[1];
         match (self, Fast.joint_replay(task, plans, ends, picks, out)) {
@@ -227,7 +242,8 @@ impl Interface for Exchanged {
         out: &mut [u64],
     ) -> u64 {
         let lengths = (local.len(), configurations.len());
-        let refusal = Fast.verdict(task, local, marks, configurations, trail, plans, ends, picks, out);
+        let refusal =
+            Fast.verdict(task, local, marks, configurations, trail, plans, ends, picks, out);
         if Fast.task(task) != 0 {
             return refusal;
         }
@@ -261,7 +277,10 @@ impl Interface for Exchanged {
 #[test]
 fn every_exchanged_pair_is_found() {
     let options = Options { seed: 13, cases: 100_000, threads: 2, stop: true };
-    let unnoticed: Vec<Exchanged> =
-        Exchanged::ALL.iter().copied().filter(|exchanged| run(exchanged, options).failed == 0).collect();
+    let unnoticed: Vec<Exchanged> = Exchanged::ALL
+        .iter()
+        .copied()
+        .filter(|exchanged| run(exchanged, options).failed == 0)
+        .collect();
     assert_eq!(unnoticed, []);
 }

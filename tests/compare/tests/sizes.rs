@@ -1,5 +1,6 @@
-//! The comparison finds implementations that are wrong from a size on: the fast twin with one wrong thing in
-//! each, for each quantity that an answer, an index or a loop counts, from 8, 16, 64, 256 and 1024 on.
+//! The comparison finds implementations that are wrong from a size on: the fast twin with one wrong
+//! thing in each, for each quantity that an answer, an index or a loop counts, from 8, 16, 64, 256
+//! and 1024 on.
 
 #[macro_use]
 mod listed;
@@ -90,8 +91,8 @@ impl Quantity {
     /// The most that it can be, or that the cases go to where it has no limit.
     fn most(self) -> usize {
         match self {
-            TaskGoalRow | SoloMember | SearchMember | JointMembers | JointMissedMember | PickMember
-            | VerdictMembers | VerdictUnsolvable | VerdictMissedMember => 8,
+            TaskGoalRow | SoloMember | SearchMember | JointMembers | JointMissedMember
+            | PickMember | VerdictMembers | VerdictUnsolvable | VerdictMissedMember => 8,
             ReadDigits => 20,
             TaskFacts | StepFact | StartFact => 64,
             TaskActionRow | StepAction | SoloAction | VerdictActions | VerdictAction => 256,
@@ -99,14 +100,17 @@ impl Quantity {
             ReadWords => 1325,
             VerdictCollision | VerdictDeadlock | VerdictPlan | VerdictEntries => 1024,
             VerdictMissed => 2048,
-            SearchRows | SearchTable | SearchMarks | SearchDistance | SearchCleared | SearchFull
-            | VerdictCopies | VerdictMarks | VerdictOffset | VerdictRows | VerdictRobust | VerdictCleared
-            | VerdictPicksCleared | VerdictFull | ReadCleared => 4096,
+            SearchRows | SearchTable | SearchMarks | SearchDistance | SearchCleared
+            | SearchFull | VerdictCopies | VerdictMarks | VerdictOffset | VerdictRows
+            | VerdictRobust | VerdictCleared | VerdictPicksCleared | VerdictFull | ReadCleared => {
+                4096
+            }
             ReadBytes => 16_384,
             SoloSteps | SoloBreak | SoloBadEntry | JointPicks | JointSuccess | JointCollision
-            | JointDeadlock | JointMissed | JointOpen | JointEntries | JointPlan | JointUnsolved
-            | JointBadEntry | JointBadPick | PickPlace | PickCollision | PickImpossible | PickPastEnd
-            | PickEntries | PlayPicks | PlayPlace | PlayCollision | PlayPassedOver => 65_536,
+            | JointDeadlock | JointMissed | JointOpen | JointEntries | JointPlan
+            | JointUnsolved | JointBadEntry | JointBadPick | PickPlace | PickCollision
+            | PickImpossible | PickPastEnd | PickEntries | PlayPicks | PlayPlace
+            | PlayCollision | PlayPassedOver => 65_536,
         }
     }
 }
@@ -119,13 +123,15 @@ type Wrong = (Quantity, usize);
 /// Every twin that has to be found.
 fn wrong_twins() -> Vec<Wrong> {
     let from = |&quantity: &Quantity| {
-        FROM.into_iter().filter(move |&from| from <= quantity.most()).map(move |from| (quantity, from))
+        FROM.into_iter()
+            .filter(move |&from| from <= quantity.most())
+            .map(move |from| (quantity, from))
     };
     Quantity::ALL.iter().flat_map(from).collect()
 }
 
-/// The fast twin, wrong in one quantity from a size on, or in nothing. It notes the largest size of each
-/// quantity that it meets.
+/// The fast twin, wrong in one quantity from a size on, or in nothing. It notes the largest size of
+/// each quantity that it meets.
 #[derive(Default)]
 struct Twin {
     wrong: Option<Wrong>,
@@ -189,7 +195,9 @@ impl Interface for Twin {
                 let members = task[1] as usize;
                 match refused_row(task) {
                     Some(row) if row <= members && self.at(TaskGoalRow, row) => return 0,
-                    Some(row) if row > members && self.at(TaskActionRow, row - members) => return 0,
+                    Some(row) if row > members && self.at(TaskActionRow, row - members) => {
+                        return 0
+                    }
                     _ => {}
                 }
             }
@@ -214,7 +222,8 @@ impl Interface for Twin {
     fn solo_replay(&self, task: &[u64], member: u8, plan: &[u16], out: &mut [u64]) -> u64 {
         let refusal = Fast.solo_replay(task, member, plan, out);
         if refusal == 7 || refusal == 10 {
-            let good = |&length: &usize| Fast.solo_replay(task, member, &plan[..length], &mut [0; 2]) == 0;
+            let good =
+                |&length: &usize| Fast.solo_replay(task, member, &plan[..length], &mut [0; 2]) == 0;
             let bad = last_good(plan.len(), good);
             if self.at(SoloBadEntry, bad) {
                 return Fast.solo_replay(task, member, &plan[..bad], out);
@@ -264,7 +273,8 @@ impl Interface for Twin {
                 marks[count - 1] ^= 1;
             }
             if let Some((_, copies)) = listed_copies(task, member as usize, count) {
-                let far = copies.distance.iter().enumerate().filter(|(_, &distance)| distance != DEAD);
+                let far =
+                    copies.distance.iter().enumerate().filter(|(_, &distance)| distance != DEAD);
                 let (row, distance) = far.max_by_key(|(_, &distance)| distance).unwrap_or((0, &0));
                 if self.at(SearchDistance, *distance as usize) {
                     marks[row] = 0;
@@ -280,7 +290,14 @@ impl Interface for Twin {
         refusal
     }
 
-    fn joint_replay(&self, task: &[u64], plans: &[u16], ends: &[u64], picks: &[u8], out: &mut [u64]) -> u64 {
+    fn joint_replay(
+        &self,
+        task: &[u64],
+        plans: &[u16],
+        ends: &[u64],
+        picks: &[u8],
+        out: &mut [u64],
+    ) -> u64 {
         let refusal = Fast.joint_replay(task, plans, ends, picks, out);
         let (_, longest) = longest(ends);
         match refusal {
@@ -296,7 +313,8 @@ impl Interface for Twin {
                     out[1] -= 1;
                 }
                 let kinds = [JointSuccess, JointCollision, JointDeadlock, JointMissed, JointOpen];
-                if self.at(kinds[out[0] as usize], done) || self.at(JointMembers, task[1] as usize) {
+                if self.at(kinds[out[0] as usize], done) || self.at(JointMembers, task[1] as usize)
+                {
                     out[0] = (out[0] + 1) % 5;
                 }
                 if self.at(JointPicks, done) {
@@ -427,7 +445,8 @@ impl Interface for Twin {
     ) -> u64 {
         let last = configurations.last().copied().unwrap_or(0);
         let last_pick = picks.last().copied().unwrap_or(0);
-        let refusal = Fast.verdict(task, local, marks, configurations, trail, plans, ends, picks, out);
+        let refusal =
+            Fast.verdict(task, local, marks, configurations, trail, plans, ends, picks, out);
         if refusal == 9 && last != 0 && self.at(VerdictFull, configurations.len()) {
             *configurations.last_mut().expect("not empty") = last;
         }
@@ -436,7 +455,8 @@ impl Interface for Twin {
         };
         let members = checked.members();
         let rows = local.len() / members;
-        let tables: Vec<Copies> = (0..members).filter_map(|member| copies(&checked, member, rows)).collect();
+        let tables: Vec<Copies> =
+            (0..members).filter_map(|member| copies(&checked, member, rows)).collect();
         if self.at(VerdictMembers, members) || self.at(VerdictActions, checked.actions.len()) {
             out[2] += 1;
         }
@@ -455,7 +475,8 @@ impl Interface for Twin {
             }
             return 0;
         }
-        let count = count_configurations(&checked, &tables, configurations.len()).expect("they were listed");
+        let count = count_configurations(&checked, &tables, configurations.len())
+            .expect("they were listed");
         let width = members + 1;
         if self.at(VerdictRows, count) {
             configurations[count * width - 1] ^= 1;
@@ -466,7 +487,8 @@ impl Interface for Twin {
         }
         let done = out[2] as usize;
         let used = if out[0] == 0 { 0 } else { done + 1 };
-        if last_pick != 0 && picks.len() > used && self.at(VerdictPicksCleared, picks.len() - used) {
+        if last_pick != 0 && picks.len() > used && self.at(VerdictPicksCleared, picks.len() - used)
+        {
             *picks.last_mut().expect("not empty") = last_pick;
         }
         if out[0] == 0 {
@@ -586,7 +608,8 @@ fn met(cases: &[u64]) -> Met {
     found.into_inner().expect("no thread fails with the lock")
 }
 
-/// The twins that no case finds. One that is wrong from a size on can differ only in a case that meets it.
+/// The twins that no case finds. One that is wrong from a size on can differ only in a case that
+/// meets it.
 fn unnoticed(twins: &[Wrong], met: &Met) -> Vec<Wrong> {
     let finds = |twin: &Wrong, case: u64| {
         let mut summary = Summary::default();

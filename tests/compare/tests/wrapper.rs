@@ -1,9 +1,10 @@
-//! The Rust wrapper: its constants are the header's, and each answer and refusal comes out as its own case.
+//! The Rust wrapper: its constants are the header's, and each answer and refusal comes out as its
+//! own case.
 
 use compare as _;
 use lawcheck::{
-    check, joint_replay, raw, read, solo_replay, solo_search, step, verdict, Outcome, Picked, Refusal,
-    Replay, Room, Run, SoloReplay, SoloSearch, Step, Verdict,
+    check, joint_replay, raw, read, solo_replay, solo_search, step, verdict, Outcome, Picked,
+    Refusal, Replay, Room, Run, SoloReplay, SoloSearch, Step, Verdict,
 };
 use reference::generate::text::of_words;
 use reference::laws;
@@ -13,8 +14,12 @@ fn the_constants_are_the_headers() {
     let header = include_str!("../../../include/lawcheck.h");
     let mut told: Vec<(String, u64)> = header
         .split(['{', ',', '\n'])
-        .filter_map(|part| part.trim().trim_end_matches("};").strip_prefix("LAWCHECK_")?.split_once(" = "))
-        .map(|(name, rest)| (name.to_string(), rest.split(' ').next().unwrap().parse().expect(name)))
+        .filter_map(|part| {
+            part.trim().trim_end_matches("};").strip_prefix("LAWCHECK_")?.split_once(" = ")
+        })
+        .map(|(name, rest)| {
+            (name.to_string(), rest.split(' ').next().unwrap().parse().expect(name))
+        })
         .collect();
     let mut ours: Vec<(String, u64)> =
         raw::CONSTANTS.iter().map(|&(name, number)| (name.to_string(), number)).collect();
@@ -77,7 +82,10 @@ fn steps_and_plans() {
     assert_eq!(solo_replay(&l1, 0, &[0, 0, 1]), Ok(SoloReplay::Breaks(1)));
     assert_eq!(solo_replay(&l1, 0, &[0]), Ok(SoloReplay::Short));
     let (mut table, mut marks) = ([9; 5], [9; 5]);
-    assert_eq!(solo_search(&l1, 0, &mut table, &mut marks), Ok(SoloSearch { copies: 4, live: true }));
+    assert_eq!(
+        solo_search(&l1, 0, &mut table, &mut marks),
+        Ok(SoloSearch { copies: 4, live: true })
+    );
     assert_eq!((table, marks), ([1, 2, 5, 6, 0], [1, 1, 1, 1, 0]));
     let found = solo_search(&laws::l4(), 1, &mut table, &mut marks);
     assert_eq!(found.map(|found| found.live), Ok(false));

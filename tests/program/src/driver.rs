@@ -42,8 +42,9 @@ pub fn run(program: &impl Program, options: Options) -> Summary {
     let next = AtomicU64::new(options.first);
     let mut summary = Summary::default();
     thread::scope(|scope| {
-        let threads: Vec<_> =
-            (0..options.threads.max(1)).map(|_| scope.spawn(|| part(program, options, &next))).collect();
+        let threads: Vec<_> = (0..options.threads.max(1))
+            .map(|_| scope.spawn(|| part(program, options, &next)))
+            .collect();
         for thread in threads {
             let part = thread.join().expect("a thread ends by itself");
             summary.passed += part.passed;

@@ -39,7 +39,8 @@ impl File {
 
     /// The bytes of the file.
     pub fn bytes(&self) -> Vec<u8> {
-        let mut lines = vec!["verdict,number".to_string(), format!("{},{}", self.kind, self.number)];
+        let mut lines =
+            vec!["verdict,number".to_string(), format!("{},{}", self.kind, self.number)];
         for (member, plan) in self.plans.iter().enumerate() {
             lines.push(format!("plan,{member}"));
             lines.extend(plan.iter().map(|action| format!("action,{action}")));
@@ -140,9 +141,16 @@ impl Judged {
         for plan in &file.plans {
             ends.push(ends.last().unwrap_or(&0) + plan.len() as u64);
         }
-        let conflict =
-            Conflict { outcome, done, plans: &file.plans.concat(), ends: &ends, picks: &file.picks };
-        conflict.check(&self.task, members, listed).map_err(|what| format!("the conflict: {what}"))?;
+        let conflict = Conflict {
+            outcome,
+            done,
+            plans: &file.plans.concat(),
+            ends: &ends,
+            picks: &file.picks,
+        };
+        conflict
+            .check(&self.task, members, listed)
+            .map_err(|what| format!("the conflict: {what}"))?;
         Ok(file)
     }
 }

@@ -1,7 +1,8 @@
 //! `program [--program FILE] [--seed S] [--first I] [--texts N] [--threads T] [--keep FOLDER]`
 //!
-//! Gives N generated texts, from number I on, to the verdict program FILE. Failing texts are kept in FOLDER.
-//! The last line is 'N passed, M failed', and the exit status is 0 only where none failed.
+//! Gives N generated texts, from number I on, to the verdict program FILE. Failing texts are kept
+//! in FOLDER. The last line is 'N passed, M failed', and the exit status is 0 only where none
+//! failed.
 #![forbid(unsafe_code)]
 
 use program::driver::{run, Options, Program};
@@ -73,7 +74,9 @@ fn main() -> ExitCode {
         println!("text {} of seed {seed}: {}", failure.number, failure.what);
         match fs::create_dir_all(&keep).and_then(|()| fs::write(&file, &failure.text)) {
             Ok(()) => println!("  {} <{}", program.0.display(), file.display()),
-            Err(error) => println!("  --seed {seed} --first {} --texts 1; not kept: {error}", failure.number),
+            Err(error) => {
+                println!("  --seed {seed} --first {} --texts 1; not kept: {error}", failure.number)
+            }
         }
     }
     for line in summary.reached.lines() {
@@ -86,7 +89,10 @@ fn main() -> ExitCode {
             failed += 1;
         }
     }
-    println!("seed {seed}, {} texts in {seconds:.1} s", summary.passed + summary.failures.len() as u64);
+    println!(
+        "seed {seed}, {} texts in {seconds:.1} s",
+        summary.passed + summary.failures.len() as u64
+    );
     println!("{} passed, {failed} failed", summary.passed);
     if failed == 0 {
         ExitCode::SUCCESS

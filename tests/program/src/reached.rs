@@ -42,8 +42,12 @@ const SIZES: [(&str, u64); 9] = [
     ("plan steps", 1023),
     ("picks", 1024),
 ];
-const TABLES: [(&str, usize); 4] =
-    [("copies full", 1), ("copies over", 1), ("configurations full", 1), ("configurations over", 2)];
+const TABLES: [(&str, usize); 4] = [
+    ("copies full", 1),
+    ("copies over", 1),
+    ("configurations full", 1),
+    ("configurations over", 2),
+];
 
 impl Reached {
     /// Counts a text that passed.
@@ -68,8 +72,9 @@ impl Reached {
         self.size("picks", file.picks.len() as u64);
         let members = task.members();
         let room = copies_room(members);
-        let found: Vec<Option<usize>> =
-            (0..members).map(|member| copies(&task, member, room).map(|table| table.rows.len())).collect();
+        let found: Vec<Option<usize>> = (0..members)
+            .map(|member| copies(&task, member, room).map(|table| table.rows.len()))
+            .collect();
         if found.contains(&Some(room)) {
             self.tables.insert(("copies full", members));
         }
@@ -124,7 +129,8 @@ impl Reached {
     pub fn lines(&self) -> [String; 2] {
         let answers: Vec<String> =
             self.answers.iter().map(|(answer, count)| format!("{answer} {count}")).collect();
-        let sizes: Vec<String> = self.sizes.iter().map(|(name, size)| format!("{name} {size}")).collect();
+        let sizes: Vec<String> =
+            self.sizes.iter().map(|(name, size)| format!("{name} {size}")).collect();
         [format!("answers: {}", answers.join(", ")), format!("up to: {}", sizes.join(", "))]
     }
 }

@@ -26,7 +26,9 @@ pub fn all() -> Vec<Size> {
     let mut sizes = vec![Size::Records];
     for members in 2..=8 {
         let room = configurations_room(members);
-        sizes.extend([room - 1, room, room + 1].map(|count| Size::Configurations { members, count }));
+        sizes.extend(
+            [room - 1, room, room + 1].map(|count| Size::Configurations { members, count }),
+        );
     }
     for members in 1..=8 {
         let room = copies_room(members);
@@ -45,7 +47,9 @@ impl Size {
     /// A law of this size. Its facts may stand anywhere, and its actions in any order.
     pub fn law(self, random: &mut Random) -> Law {
         let law = match self {
-            Size::Configurations { members, count } => configurations(members, count, random.chance(50)),
+            Size::Configurations { members, count } => {
+                configurations(members, count, random.chance(50))
+            }
             Size::Copies { members, member, count } => copies(members, member, count),
             Size::Picks { bits, waits } => picks(bits, waits),
             Size::Unsolvable { members } => unsolvable(members),
@@ -82,8 +86,9 @@ fn bits(limit: usize) -> usize {
     (usize::BITS - (limit - 1).leading_zeros()) as usize
 }
 
-/// Two members who walk along a and b copies, the first `count` configurations of a times b: where that is
-/// more, the last step of the one and a step of the other shut each other out, in a collision or by waiting.
+/// Two members who walk along a and b copies, the first `count` configurations of a times b: where
+/// that is more, the last step of the one and a step of the other shut each other out, in a
+/// collision or by waiting.
 fn configurations(members: usize, count: usize, waits: bool) -> Law {
     let a = (1..).find(|a| a * a >= count).expect("some square is as large");
     let b = count.div_ceil(a);
@@ -111,8 +116,8 @@ fn configurations(members: usize, count: usize, waits: bool) -> Law {
     law
 }
 
-/// A member who walks along chains of its own, a chain for each prime factor of the count; where the count
-/// is one more than the table has room for, a last step after all of them.
+/// A member who walks along chains of its own, a chain for each prime factor of the count; where
+/// the count is one more than the table has room for, a last step after all of them.
 fn copies(members: usize, member: usize, count: usize) -> Law {
     let over = count > copies_room(members);
     let lengths = factors(count - usize::from(over));
@@ -134,15 +139,16 @@ fn copies(members: usize, member: usize, count: usize) -> Law {
 fn factors(mut number: usize) -> Vec<usize> {
     let mut factors = Vec::new();
     while number > 1 {
-        let factor = (2..).find(|factor| number.is_multiple_of(*factor)).expect("the number itself");
+        let factor =
+            (2..).find(|factor| number.is_multiple_of(*factor)).expect("the number itself");
         factors.push(factor);
         number /= factor;
     }
     factors
 }
 
-/// A member who counts to 2^bits - 1, with an action for each digit; another action, for its last step, takes
-/// away what the one action of the other needs.
+/// A member who counts to 2^bits - 1, with an action for each digit; another action, for its last
+/// step, takes away what the one action of the other needs.
 fn picks(bits: usize, waits: bool) -> Law {
     let register = Register { first: 1, bits };
     let last = (1 << bits) - 1;
@@ -175,5 +181,10 @@ fn unsolvable(members: usize) -> Law {
 /// The law with the longest text: F = 64, 8 members, 256 actions, and full masks.
 fn records() -> Law {
     let action = |number: u64| [number % 8, u64::MAX, u64::MAX, u64::MAX, u64::MAX];
-    Law { facts: 64, initial: u64::MAX, goals: vec![u64::MAX; 8], actions: (0..256).map(action).collect() }
+    Law {
+        facts: 64,
+        initial: u64::MAX,
+        goals: vec![u64::MAX; 8],
+        actions: (0..256).map(action).collect(),
+    }
 }

@@ -75,7 +75,8 @@ fn any(random: &mut Random) -> Vec<u8> {
 
 /// Damages the bytes or the lines of a text.
 fn damaged(random: &mut Random, text: &mut Vec<u8>) {
-    let mut lines: Vec<Vec<u8>> = text.split_inclusive(|&byte| byte == b'\n').map(<[u8]>::to_vec).collect();
+    let mut lines: Vec<Vec<u8>> =
+        text.split_inclusive(|&byte| byte == b'\n').map(<[u8]>::to_vec).collect();
     if lines.is_empty() {
         return;
     }
@@ -133,7 +134,8 @@ fn noise(random: &mut Random, most: usize) -> Vec<u8> {
 /// Puts another number in the place of one of a line's.
 fn field(random: &mut Random, line: &mut Vec<u8>, new: impl Fn(&[u8]) -> Vec<u8>) {
     let end = line.strip_suffix(b"\r\n").map_or(line.len(), <[u8]>::len);
-    let mut fields: Vec<Vec<u8>> = line[..end].split(|&byte| byte == b',').map(<[u8]>::to_vec).collect();
+    let mut fields: Vec<Vec<u8>> =
+        line[..end].split(|&byte| byte == b',').map(<[u8]>::to_vec).collect();
     let place = random.below(fields.len());
     fields[place] = new(&fields[place]);
     line.splice(..end, fields.join(&b','));

@@ -1,4 +1,5 @@
-//! The test finds broken programs: the fast twin behind the verdict file, with one thing wrong in each.
+//! The test finds broken programs: the fast twin behind the verdict file, with one thing wrong in
+//! each.
 
 use program::file::{configurations_room, copies_room, judge, File, Judged, CONFIGURATIONS, LOCAL};
 use program::reached::Reached;
@@ -172,7 +173,8 @@ impl Broken {
     /// The text that it takes for this one.
     fn misread(self, text: &[u8]) -> Vec<u8> {
         let plain = String::from_utf8_lossy(text);
-        let lines = |end: &str| plain.split(end).filter(|line| !line.is_empty()).collect::<Vec<_>>();
+        let lines =
+            |end: &str| plain.split(end).filter(|line| !line.is_empty()).collect::<Vec<_>>();
         match self {
             LeadingZeroTaken => plain.replace(",00", ",0").replace(",01", ",1").into_bytes(),
             LineFeedTaken => (lines("\n").iter().map(|line| line.trim_end_matches('\r')))
@@ -181,7 +183,9 @@ impl Broken {
             LastLineEndAsked if !text.is_empty() && !text.ends_with(b"\r\n") => b"x".to_vec(),
             BlankEndTaken => plain.replace("\r\n\r\n", "\r\n").into_bytes(),
             NumberTaken(number) => plain.replace(&number.to_string(), "0").into_bytes(),
-            RecordsTaken => lines("\r\n").into_iter().take(265).collect::<Vec<_>>().join("\r\n").into_bytes(),
+            RecordsTaken => {
+                lines("\r\n").into_iter().take(265).collect::<Vec<_>>().join("\r\n").into_bytes()
+            }
             RecordsRefused if lines("\r\n").len() == 265 => b"x".to_vec(),
             LongTextCut => text[..text.len().min(28_090)].to_vec(),
             EmptyTextMalformed if text.is_empty() => b"x".to_vec(),
@@ -201,10 +205,14 @@ impl Broken {
         };
         let found = |room| {
             let task = task.as_ref()?;
-            (0..members).map(|member| copies(task, member, room).map(|table| table.rows.len())).max()?
+            (0..members)
+                .map(|member| copies(task, member, room).map(|table| table.rows.len()))
+                .max()?
         };
         match self {
-            RefusalExchanged(one, other) if kind == "refused" && number == one => file.number = other,
+            RefusalExchanged(one, other) if kind == "refused" && number == one => {
+                file.number = other
+            }
             CopiesFullRefused(n) if n == members && found(LOCAL) == Some(copies_room(n)) => {
                 *file = File::short("refused", 9);
             }

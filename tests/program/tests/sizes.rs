@@ -20,7 +20,11 @@ fn each_law_has_its_size() {
         match size {
             Size::Configurations { members, count } => {
                 assert_eq!(task.members(), members);
-                assert_eq!(count_configurations(&task, &tables(&task), ROOM), Some(count), "{size:?}");
+                assert_eq!(
+                    count_configurations(&task, &tables(&task), ROOM),
+                    Some(count),
+                    "{size:?}"
+                );
             }
             Size::Copies { members, member, count } => {
                 assert_eq!(task.members(), members);
@@ -31,7 +35,8 @@ fn each_law_has_its_size() {
                 assert_eq!(most, (1 << bits) + 1, "{size:?}");
             }
             Size::Unsolvable { members } => {
-                let live: Vec<bool> = tables(&task).iter().map(|table| table.live(task.initial)).collect();
+                let live: Vec<bool> =
+                    tables(&task).iter().map(|table| table.live(task.initial)).collect();
                 assert_eq!(live.iter().position(|live| !live), Some(members - 1), "{size:?}");
             }
             Size::Records => assert_eq!(words.len(), 5 * 265),
@@ -41,13 +46,21 @@ fn each_law_has_its_size() {
 
 #[test]
 fn a_file_is_read_back() {
-    let file = File { plans: vec![vec![0, 1], vec![]], picks: vec![0, 1], ..File::short("collision", 1) };
+    let file =
+        File { plans: vec![vec![0, 1], vec![]], picks: vec![0, 1], ..File::short("collision", 1) };
     assert_eq!(File::parse(&file.bytes()), Some(file.clone()));
-    for wrong in
-        ["collision,01", "collision,1 ", "collision,1\n", "collision,1\r\nplan,1", "collision,1\r\npick,0"]
-    {
-        let bytes =
-            String::from_utf8(file.bytes()).expect("digits and letters").replacen("collision,1", wrong, 1);
+    for wrong in [
+        "collision,01",
+        "collision,1 ",
+        "collision,1\n",
+        "collision,1\r\nplan,1",
+        "collision,1\r\npick,0",
+    ] {
+        let bytes = String::from_utf8(file.bytes()).expect("digits and letters").replacen(
+            "collision,1",
+            wrong,
+            1,
+        );
         assert_eq!(File::parse(bytes.as_bytes()), None, "{wrong}");
     }
 }

@@ -14,7 +14,8 @@ pub mod out_length {
     pub const READ: usize = 1;
 }
 
-/// An implementation of the C interface. Each operation gives the refusal's number, or 0 for an answer.
+/// An implementation of the C interface. Each operation gives the refusal's number, or 0 for an
+/// answer.
 #[allow(clippy::too_many_arguments)]
 pub trait Interface: Sync {
     fn task(&self, task: &[u64]) -> u64;
@@ -32,7 +33,14 @@ pub trait Interface: Sync {
         out: &mut [u64],
     ) -> u64;
 
-    fn joint_replay(&self, task: &[u64], plans: &[u16], ends: &[u64], picks: &[u8], out: &mut [u64]) -> u64;
+    fn joint_replay(
+        &self,
+        task: &[u64],
+        plans: &[u16],
+        ends: &[u64],
+        picks: &[u8],
+        out: &mut [u64],
+    ) -> u64;
 
     fn pick(
         &self,

@@ -1,8 +1,9 @@
-//! A second implementation of the law checker, written from the scope paper and not from the definitions in `specs/`.
+//! A second implementation of the law checker, written from the scope paper and not from the
+//! definitions in `specs/`.
 //!
 //! * [`paper`]: facts as sets, plain loops, one module for each section of the paper. The oracle.
 //! * [`brute`]: all short plans and all pick orders of small laws.
-//! * [`fast`]: masks and hash maps, the twin for benchmarks and the stand-in for the proved library.
+//! * [`fast`]: masks and hash maps, the twin for benchmarks, which also stands in for the library.
 //! * [`interface`]: the operations as the C interface lends them, one trait.
 //! * [`generate`]: laws, plans, picks and texts from fixed seeds, valid and damaged.
 //! * [`laws`]: L1 to L12 of the paper.

@@ -178,13 +178,19 @@ fn the_laws_as_text() {
 
 #[test]
 fn conflicts_of_the_laws_are_as_asked() {
-    let faults = [(l2(), Outcome::Collision), (l3(), Outcome::Deadlock), (l7(), Outcome::Missed(0))];
+    let faults =
+        [(l2(), Outcome::Collision), (l3(), Outcome::Deadlock), (l7(), Outcome::Missed(0))];
     for (law, outcome) in faults {
         let Ok(Class::NotRobust(listed, _)) = class(&law) else { panic!("a fault") };
         let mut slices = Slices::of_words(64, 128);
         let [_, _, done] = slices.fast(&law).unwrap();
-        let conflict =
-            Conflict { outcome, done, plans: &slices.plans, ends: &slices.ends, picks: &slices.picks };
+        let conflict = Conflict {
+            outcome,
+            done,
+            plans: &slices.plans,
+            ends: &slices.ends,
+            picks: &slices.picks,
+        };
         assert_eq!(conflict.check(&law, 2, listed), Ok(()));
         assert!(conflict.check(&law, 2, 0).is_err());
         assert!(Conflict { done: done + 1, ..conflict }.check(&law, 2, listed).is_err());

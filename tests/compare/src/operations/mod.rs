@@ -1,4 +1,5 @@
-//! One module for each group of operations: inputs, the paper's answer, the answer found, and what differs.
+//! One module for each group of operations: inputs, the paper's answer, the answer found, and what
+//! differs.
 
 mod read;
 mod run;
@@ -12,7 +13,8 @@ use reference::generate::{damage::damage, families};
 use reference::interface::Interface;
 use reference::random::Random;
 
-/// Runs the case with this number: one that is made for a size, or one chosen by the random numbers.
+/// Runs the case with this number: one that is made for a size, or one chosen by the random
+/// numbers.
 pub fn case(case: u64, random: &mut Random, checked: &impl Interface) -> Checked {
     sizes::any(case, random, checked).unwrap_or_else(|| any(random, checked))
 }

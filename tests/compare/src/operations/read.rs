@@ -29,7 +29,12 @@ pub fn read(random: &mut Random, checked: &impl Interface) -> Checked {
 }
 
 /// This text, with a word slice of this length.
-pub fn read_on(random: &mut Random, checked: &impl Interface, bytes: Vec<u8>, length: usize) -> Checked {
+pub fn read_on(
+    random: &mut Random,
+    checked: &impl Interface,
+    bytes: Vec<u8>,
+    length: usize,
+) -> Checked {
     let words: Vec<u64> = contents(random, length);
     let out = random_out(random, out_length::READ);
     let (mut expected_words, mut expected_out) = (words.clone(), out.clone());

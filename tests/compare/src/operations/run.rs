@@ -141,7 +141,8 @@ pub fn start_on(checked: &impl Interface, words: Vec<u64>, run: Vec<u64>) -> Che
     let mut comparison = Comparison::new("lawcheck_start");
     comparison.answer((expected, &[]), found, &Lent::new(&[]));
     comparison.slice("run", &expected_run, &found_run);
-    comparison.close(class(expected, 0), || (Input::Task(words), vec![("run at entry", list(&run))]))
+    comparison
+        .close(class(expected, 0), || (Input::Task(words), vec![("run at entry", list(&run))]))
 }
 
 pub fn play(random: &mut Random, checked: &impl Interface) -> Checked {
@@ -170,15 +171,20 @@ pub fn play_on(
 ) -> Checked {
     let Bundle { plans, ends } = bundle;
     let (mut expected_run, mut expected_answers) = (run.clone(), answers.clone());
-    let expected = paper::play(&words, &plans, &ends, &mut expected_run, &picks, &mut expected_answers);
+    let expected =
+        paper::play(&words, &plans, &ends, &mut expected_run, &picks, &mut expected_answers);
     let (mut found_run, mut found_answers) = (Lent::new(&run), Lent::new(&answers));
-    let found = checked.play(&words, &plans, &ends, found_run.slice(), &picks, found_answers.slice());
+    let found =
+        checked.play(&words, &plans, &ends, found_run.slice(), &picks, found_answers.slice());
     let mut comparison = Comparison::new("lawcheck_play");
     comparison.answer((expected, &[]), found, &Lent::new(&[]));
     comparison.slice("run", &expected_run, &found_run);
     comparison.slice("answers", &expected_answers, &found_answers);
     // The case counts by what its last pick answers.
-    let last = picks.len().checked_sub(1).map_or(0, |last| expected_answers.get(last).copied().unwrap_or(0));
+    let last = picks
+        .len()
+        .checked_sub(1)
+        .map_or(0, |last| expected_answers.get(last).copied().unwrap_or(0));
     comparison.close(class(expected, last), || {
         let others = vec![
             ("plans", list(&plans)),

@@ -1,13 +1,13 @@
-//! Cases made for a size: for each quantity that an answer, an index or a loop counts, every power of two up to
-//! its limit, one less and one more.
+//! Cases made for a size: for each quantity that an answer, an index or a loop counts, every power
+//! of two up to its limit, one less and one more.
 
 use super::{read, run, solo, step, verdict};
 use crate::case::Checked;
 use reference::generate::families::counters;
 use reference::generate::plans::Bundle;
 use reference::generate::sizes::{
-    amid, beside, digits, fault_after, fault_before, last_action, last_fact, last_unsolvable, odometer,
-    odometer_past, padded, records, scattered, sizes, Fault, Turns,
+    amid, beside, digits, fault_after, fault_before, last_action, last_fact, last_unsolvable,
+    odometer, odometer_past, padded, records, scattered, sizes, Fault, Turns,
 };
 use reference::generate::{contents, shuffle, text, Law};
 use reference::interface::Interface;
@@ -19,7 +19,8 @@ const EVERY: u64 = 64;
 
 /// The most steps, picks and places.
 const STEPS: usize = 65_537;
-/// The rows of the verdict program's tables; what a missed goal and another fault of two members need of them.
+/// The rows of the verdict program's tables; what a missed goal and another fault of two members
+/// need of them.
 const ROWS: usize = 4097;
 const MISSED: usize = 2049;
 const PICKS: usize = 1025;
@@ -271,21 +272,27 @@ impl Made {
                 let taker = random.below(missed);
                 let mut plans = vec![Vec::new(); missed + 1];
                 plans[taker] = vec![turns.takes(taker)];
-                run::joint_replay_on(random, checked, turns.law.words(), bundle(plans), vec![taker as u8])
+                run::joint_replay_on(
+                    random,
+                    checked,
+                    turns.law.words(),
+                    bundle(plans),
+                    vec![taker as u8],
+                )
             }
             JointActions => {
                 let turns = Turns::new(2);
                 let before = size.max(10) - 10;
-                let moved = |plan: Vec<u16>| plan.iter().map(|entry| entry + before as u16).collect();
+                let moved =
+                    |plan: Vec<u16>| plan.iter().map(|entry| entry + before as u16).collect();
                 let plans = (0..2).map(|member| moved(turns.plan(member, 3))).collect();
                 let words = padded(turns.law, size).words();
                 let mut picks = vec![0, 0, 0, 1, 1, 1];
                 shuffle(random, &mut picks);
                 run::joint_replay_on(random, checked, words, bundle(plans), picks)
             }
-            JointSuccess | JointFault(_) | JointOpen | JointUnsolved | JointBadEntry | JointBadPick => {
-                self.joint(size, random, checked)
-            }
+            JointSuccess | JointFault(_) | JointOpen | JointUnsolved | JointBadEntry
+            | JointBadPick => self.joint(size, random, checked),
             PickMembers | PickGo | PickCollision | PickImpossible | PickPastEnd => {
                 self.pick(size, random, checked)
             }
@@ -418,7 +425,8 @@ impl Made {
         let members = if matches!(self, PickMembers) { size } else { random.between(1, MEMBERS) };
         let turns = Turns::new(members);
         let member = if matches!(self, PickMembers) { size - 1 } else { random.below(members) };
-        let (steps, shared_fact) = (if matches!(self, PickMembers) { 2 } else { size }, 1 << members);
+        let (steps, shared_fact) =
+            (if matches!(self, PickMembers) { 2 } else { size }, 1 << members);
         let mut plans: Vec<Vec<u16>> =
             (0..members).map(|member| turns.plan(member, random.below(3))).collect();
         plans[member] = turns.plan(member, steps);
@@ -501,8 +509,8 @@ fn bundle(plans: Vec<Vec<u16>>) -> Bundle {
     bundle
 }
 
-/// The law of some members among idle ones, with its facts anywhere. A large law has few of them, since each
-/// has its part in every configuration.
+/// The law of some members among idle ones, with its facts anywhere. A large law has few of them,
+/// since each has its part in every configuration.
 fn idled(random: &mut Random, law: Law, members: usize) -> Law {
     let most = if law.facts > 20 { 2 } else { MEMBERS - members };
     let before = random.between(0, most);

@@ -42,8 +42,11 @@ pub fn replay_on(
     comparison.answer((expected, &expected_out), found, &found_out);
     let answer = expected_out.first().copied().unwrap_or(0);
     comparison.close(class(expected, answer), || {
-        let others =
-            vec![("member", member.to_string()), ("plan", list(&plan)), ("out at entry", list(&out))];
+        let others = vec![
+            ("member", member.to_string()),
+            ("plan", list(&plan)),
+            ("out at entry", list(&out)),
+        ];
         (Input::Task(words), others)
     })
 }
@@ -87,12 +90,22 @@ pub fn search_in(
 
     let (mut expected_table, mut expected_marks) = (table.clone(), marks.clone());
     let mut expected_out = out.clone();
-    let expected =
-        paper::solo_search(&words, member, &mut expected_table, &mut expected_marks, &mut expected_out);
+    let expected = paper::solo_search(
+        &words,
+        member,
+        &mut expected_table,
+        &mut expected_marks,
+        &mut expected_out,
+    );
     let (mut found_table, mut found_marks) = (Lent::new(&table), Lent::new(&marks));
     let mut found_out = Lent::new(&out);
-    let found =
-        checked.solo_search(&words, member, found_table.slice(), found_marks.slice(), found_out.slice());
+    let found = checked.solo_search(
+        &words,
+        member,
+        found_table.slice(),
+        found_marks.slice(),
+        found_out.slice(),
+    );
     let mut comparison = Comparison::new("lawcheck_solo_search");
     comparison.answer((expected, &expected_out), found, &found_out);
     comparison.slice("table", &expected_table, &found_table);

@@ -50,8 +50,11 @@ pub fn step_on(
     comparison.answer((expected, &expected_out), found, &found_out);
     let answer = expected_out.first().copied().unwrap_or(0);
     comparison.close(class(expected, answer), || {
-        let others =
-            vec![("action", action.to_string()), ("shared", list(&shared)), ("out at entry", list(&out))];
+        let others = vec![
+            ("action", action.to_string()),
+            ("shared", list(&shared)),
+            ("out at entry", list(&out)),
+        ];
         (Input::Task(words), others)
     })
 }

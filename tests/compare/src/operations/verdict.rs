@@ -1,5 +1,5 @@
-//! The verdict: its class and tables, its conflict by replay in both implementations, runs played to the
-//! finish where it is robust, and brute force beside it where a law is small.
+//! The verdict: its class and tables, its conflict by replay in both implementations, runs played
+//! to the finish where it is robust, and brute force beside it where a law is small.
 
 use super::step::random_out;
 use super::task_words;
@@ -61,8 +61,8 @@ pub fn rows_near(random: &mut Random, needed: Option<usize>, most: usize) -> usi
     rows.min(most)
 }
 
-/// How many copies a member of the task has at most, and how many configurations there are; none where they are
-/// more than `most` of each.
+/// How many copies a member of the task has at most, and how many configurations there are; none
+/// where they are more than `most` of each.
 fn needed(words: &[u64], most: [usize; 2]) -> (usize, [Option<usize>; 2]) {
     let Some(Planner { task, tables }) = Planner::with(words, most[0]) else {
         return (2, [None; 2]);
@@ -82,7 +82,8 @@ fn slices(random: &mut Random, words: &[u64], most: [usize; 2]) -> Slices {
     let rows = rows_near(random, copies, most[0]);
     let configurations = rows_near(random, configurations, most[1]);
     let spared = random.chance(40);
-    let length = |random: &mut Random, asked| if spared { asked } else { length_near(random, asked) };
+    let length =
+        |random: &mut Random, asked| if spared { asked } else { length_near(random, asked) };
     slices_for(random, members, [rows, configurations], length)
 }
 
@@ -193,7 +194,12 @@ pub fn verdict(random: &mut Random, checked: &impl Interface) -> Checked {
 }
 
 /// The verdict on this task with these slices.
-pub fn verdict_on(random: &mut Random, checked: &impl Interface, words: Vec<u64>, entry: Slices) -> Checked {
+pub fn verdict_on(
+    random: &mut Random,
+    checked: &impl Interface,
+    words: Vec<u64>,
+    entry: Slices,
+) -> Checked {
     let mut expected = entry.clone();
     let answer = expected.expect(&words);
     let mut found = entry.lend();
@@ -310,7 +316,8 @@ fn not_robust(
         let (kind, member) = outcome_numbers(outcome);
         if refusal != 0 || replayed[..3] != [kind, member, out[2]] {
             let text = list(&replayed);
-            comparison.differ(format!("its own replay of the conflict: returns {refusal}, out {text}"));
+            comparison
+                .differ(format!("its own replay of the conflict: returns {refusal}, out {text}"));
         }
     }
     Some(outcome)

@@ -1,5 +1,5 @@
-//! The fast twin: masks, hash maps and early exits, as a Rust programmer would write it. It serves the
-//! benchmarks and stands in for the proved library where that is not built.
+//! The fast twin: masks, hash maps and early exits, as a Rust programmer would write it. It serves
+//! the benchmarks and stands in for the proved library where that is not built.
 
 mod run;
 mod solo;
@@ -155,7 +155,14 @@ impl Interface for Fast {
         given(out, solo::search(task, member, table, marks))
     }
 
-    fn joint_replay(&self, task: &[u64], plans: &[u16], ends: &[u64], picks: &[u8], out: &mut [u64]) -> u64 {
+    fn joint_replay(
+        &self,
+        task: &[u64],
+        plans: &[u16],
+        ends: &[u64],
+        picks: &[u8],
+        out: &mut [u64],
+    ) -> u64 {
         if out.len() < out_length::JOINT_REPLAY {
             return TOO_SHORT;
         }

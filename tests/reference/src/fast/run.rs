@@ -49,7 +49,13 @@ pub enum Outcome {
 }
 
 /// The outcome of a run.
-pub fn outcome(task: &Task, plans: &Plans, places: &[usize; 8], shared: u64, collided: bool) -> Outcome {
+pub fn outcome(
+    task: &Task,
+    plans: &Plans,
+    places: &[usize; 8],
+    shared: u64,
+    collided: bool,
+) -> Outcome {
     if collided {
         return Outcome::Collision;
     }
@@ -71,7 +77,12 @@ pub fn outcome(task: &Task, plans: &Plans, places: &[usize; 8], shared: u64, col
     }
 }
 
-pub(super) fn joint_replay(task: &[u64], plans: &[u16], ends: &[u64], picks: &[u8]) -> Result<[u64; 4], u64> {
+pub(super) fn joint_replay(
+    task: &[u64],
+    plans: &[u16],
+    ends: &[u64],
+    picks: &[u8],
+) -> Result<[u64; 4], u64> {
     let task = Task::check(task)?;
     let plans = Plans::check(&task, plans, ends)?;
     let mut places = [0; 8];

@@ -39,7 +39,8 @@ pub fn at_the_limits(random: &mut Random) -> Vec<u64> {
         }
         4 => counters(random.between(1, 4), random.between(1, 4)).words(),
         5 => {
-            let bits = if random.chance(10) { random.between(10, 13) } else { random.between(5, 9) };
+            let bits =
+                if random.chance(10) { random.between(10, 13) } else { random.between(5, 9) };
             counters(1, bits).words()
         }
         6 => chains(random, 8, 8).words(),
@@ -96,8 +97,8 @@ pub fn near_the_laws(random: &mut Random) -> Vec<u64> {
     words
 }
 
-/// Members who take tokens, one after another, work, and mostly give them back: locks with and without
-/// waiting, in one order or in several.
+/// Members who take tokens, one after another, work, and mostly give them back: locks with and
+/// without waiting, in one order or in several.
 pub fn tokens(random: &mut Random, members: usize, tokens: usize) -> Law {
     let members = random.between(1, members);
     let tokens = random.between(1, tokens);
@@ -136,15 +137,18 @@ pub fn tokens(random: &mut Random, members: usize, tokens: usize) -> Law {
     law
 }
 
-/// Members who each walk along facts of their own; robust, with as many configurations as a grid has points.
+/// Members who each walk along facts of their own; robust, with as many configurations as a grid
+/// has points.
 pub fn chains(random: &mut Random, members: usize, longest: usize) -> Law {
-    let lengths: Vec<usize> = (0..random.between(1, members)).map(|_| random.between(1, longest)).collect();
+    let lengths: Vec<usize> =
+        (0..random.between(1, members)).map(|_| random.between(1, longest)).collect();
     chains_of(&lengths)
 }
 
 /// Chains of given lengths, with at most 64 points in all.
 pub fn chains_of(lengths: &[usize]) -> Law {
-    let mut law = Law { facts: lengths.iter().sum(), initial: 0, goals: Vec::new(), actions: Vec::new() };
+    let mut law =
+        Law { facts: lengths.iter().sum(), initial: 0, goals: Vec::new(), actions: Vec::new() };
     let mut begin = 0;
     for (member, length) in lengths.iter().enumerate() {
         law.initial |= 1 << begin;
@@ -160,7 +164,8 @@ pub fn chains_of(lengths: &[usize]) -> Law {
 
 /// Members who each turn over facts of their own one by one: 2^facts local copies.
 pub fn counters(members: usize, facts: usize) -> Law {
-    let mut law = Law { facts: members * facts, initial: 0, goals: Vec::new(), actions: Vec::new() };
+    let mut law =
+        Law { facts: members * facts, initial: 0, goals: Vec::new(), actions: Vec::new() };
     for member in 0..members {
         let bits = (member * facts..(member + 1) * facts).map(|fact| 1u64 << fact);
         law.goals.push(bits.clone().sum());
@@ -216,14 +221,16 @@ fn without_actions(random: &mut Random) -> Law {
     Law { facts, initial, goals, actions: Vec::new() }
 }
 
-/// The same law among more facts, members and actions: its facts stand anywhere, the new members are done at
-/// the start, and the new actions repeat others, do nothing, or need what nobody adds.
+/// The same law among more facts, members and actions: its facts stand anywhere, the new members
+/// are done at the start, and the new actions repeat others, do nothing, or need what nobody adds.
 pub fn widened(random: &mut Random, law: Law, facts: usize, members: usize, actions: usize) -> Law {
     let facts = facts.max(law.facts);
     let mut places: Vec<usize> = (0..facts).collect();
     shuffle(random, &mut places);
     let moved = |mask: u64| {
-        (0..law.facts).filter(|fact| mask >> fact & 1 == 1).fold(0, |new, fact| new | 1 << places[fact])
+        (0..law.facts)
+            .filter(|fact| mask >> fact & 1 == 1)
+            .fold(0, |new, fact| new | 1 << places[fact])
     };
     let unused = places[law.facts..].iter().fold(0u64, |mask, place| mask | 1 << place);
     let start = moved(law.initial);
@@ -234,7 +241,9 @@ pub fn widened(random: &mut Random, law: Law, facts: usize, members: usize, acti
         actions: law
             .actions
             .iter()
-            .map(|&[member, pre, wait, add, del]| [member, moved(pre), moved(wait), moved(add), moved(del)])
+            .map(|&[member, pre, wait, add, del]| {
+                [member, moved(pre), moved(wait), moved(add), moved(del)]
+            })
             .collect(),
     };
     while wide.goals.len() < members {

@@ -1,4 +1,5 @@
-//! Generated inputs. Everything comes from one [`Random`], so a seed and a case number give a case again.
+//! Generated inputs. Everything comes from one [`Random`], so a seed and a case number give a case
+//! again.
 
 pub mod damage;
 pub mod families;

@@ -61,7 +61,9 @@ impl Planner {
         let own = self.task.own.get(member).map_or(&[][..], Vec::as_slice);
         let mut plan = match random.below(10) {
             0 => Vec::new(),
-            1..=3 if !own.is_empty() => (0..random.between(1, 8)).map(|_| random.one_of(own)).collect(),
+            1..=3 if !own.is_empty() => {
+                (0..random.between(1, 8)).map(|_| random.one_of(own)).collect()
+            }
             4..=6 if !own.is_empty() => self.walk(random, own),
             _ if member < self.task.members() => self.solving(random, member).unwrap_or_default(),
             _ => Vec::new(),
@@ -221,7 +223,10 @@ impl Planner {
             1 => words[9] = random.word() & self.task.known,
             2 => words[9] = random.word() & self.task.known,
             3 => words[9] = random.one_of(&[u64::MAX, self.task.known.wrapping_add(1), 1 << 63]),
-            4 => words[1 + random.below(members)] = random.one_of(&[u64::MAX, 1 << 32, 1 << 63, 1000]),
+            4 => {
+                words[1 + random.below(members)] =
+                    random.one_of(&[u64::MAX, 1 << 32, 1 << 63, 1000])
+            }
             5 => {
                 let place = 1 + random.below(members);
                 words[place] = words[place].wrapping_add(random.one_of(&[1, 1, 2, u64::MAX]));

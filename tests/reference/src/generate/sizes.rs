@@ -1,4 +1,5 @@
-//! Laws made for a size: as many facts, members, actions, copies, configurations, steps or picks as asked.
+//! Laws made for a size: as many facts, members, actions, copies, configurations, steps or picks as
+//! asked.
 
 use super::{shuffle, some, Law};
 use crate::random::Random;
@@ -6,7 +7,8 @@ use std::collections::BTreeSet;
 
 /// The sizes from 1 to `most` at which machines break: each power of two, one less and one more.
 pub fn sizes(most: usize) -> Vec<usize> {
-    let near = (0..usize::BITS - 1).flat_map(|power| [(1 << power) - 1, 1 << power, (1 << power) + 1]);
+    let near =
+        (0..usize::BITS - 1).flat_map(|power| [(1 << power) - 1, 1 << power, (1 << power) + 1]);
     near.filter(|size| (1..=most).contains(size)).collect::<BTreeSet<usize>>().into_iter().collect()
 }
 
@@ -41,10 +43,13 @@ pub fn scattered(random: &mut Random, law: Law, facts: usize) -> Law {
     let mut places: Vec<usize> = (0..facts).collect();
     shuffle(random, &mut places);
     let moved = |mask: u64| {
-        (0..law.facts).filter(|fact| mask >> fact & 1 == 1).fold(0, |new, fact| new | 1 << places[fact])
+        (0..law.facts)
+            .filter(|fact| mask >> fact & 1 == 1)
+            .fold(0, |new, fact| new | 1 << places[fact])
     };
-    let row =
-        |&[member, pre, wait, add, del]: &[u64; 5]| [member, moved(pre), moved(wait), moved(add), moved(del)];
+    let row = |&[member, pre, wait, add, del]: &[u64; 5]| {
+        [member, moved(pre), moved(wait), moved(add), moved(del)]
+    };
     Law {
         facts,
         initial: moved(law.initial),
@@ -53,8 +58,8 @@ pub fn scattered(random: &mut Random, law: Law, facts: usize) -> Law {
     }
 }
 
-/// One member who counts up in base two: `rows` local copies, each led to by the one before alone. The goal is
-/// the last of them. Bit k of the count is fact 2k + 1, and fact 2k where it is 0.
+/// One member who counts up in base two: `rows` local copies, each led to by the one before alone.
+/// The goal is the last of them. Bit k of the count is fact 2k + 1, and fact 2k where it is 0.
 pub fn odometer(rows: usize) -> Law {
     let bits = rows.next_power_of_two().trailing_zeros().max(1) as usize;
     let zero = |bit: usize| 1u64 << (2 * bit);
@@ -88,8 +93,9 @@ pub enum Fault {
     Missed,
 }
 
-/// Two members. Member 0 has one plan, of `picks` steps; the last takes a shared fact away that member 1's one
-/// step needs or waits for, or that member 1 wants in the end. No fault comes before.
+/// Two members. Member 0 has one plan, of `picks` steps; the last takes a shared fact away that
+/// member 1's one step needs or waits for, or that member 1 wants in the end. No fault comes
+/// before.
 pub fn fault_after(picks: usize, fault: Fault) -> Law {
     let mut law = odometer(picks);
     let [shared, done, ready, reached] = [0, 1, 2, 3].map(|fact| 1u64 << (law.facts + fact));
@@ -106,9 +112,9 @@ pub fn fault_after(picks: usize, fault: Fault) -> Law {
     law
 }
 
-/// Two members. Member 1's one step takes a shared fact away that member 0's first step needs, and waits for
-/// where it is a deadlock; after that step member 0 has `steps` more to its goal. So the picks of a conflict are
-/// few and its plans are long.
+/// Two members. Member 1's one step takes a shared fact away that member 0's first step needs, and
+/// waits for where it is a deadlock; after that step member 0 has `steps` more to its goal. So the
+/// picks of a conflict are few and its plans are long.
 pub fn fault_before(steps: usize, fault: Fault) -> Law {
     let mut law = odometer(steps + 1);
     let [shared, fresh, begun, taken] = [0, 1, 2, 3].map(|fact| 1u64 << (law.facts + fact));
@@ -124,8 +130,8 @@ pub fn fault_before(steps: usize, fault: Fault) -> Law {
     law
 }
 
-/// Members who turn a fact of their own on and off as often as they like, and share one fact that each of them
-/// can take away, can need and can wait for.
+/// Members who turn a fact of their own on and off as often as they like, and share one fact that
+/// each of them can take away, can need and can wait for.
 pub struct Turns {
     pub law: Law,
 }
@@ -133,8 +139,12 @@ pub struct Turns {
 impl Turns {
     pub fn new(members: usize) -> Turns {
         let shared = 1 << members;
-        let mut law =
-            Law { facts: members + 1, initial: shared, goals: vec![0; members], actions: Vec::new() };
+        let mut law = Law {
+            facts: members + 1,
+            initial: shared,
+            goals: vec![0; members],
+            actions: Vec::new(),
+        };
         for member in 0..members {
             let own = 1 << member;
             law.actions.extend([
@@ -174,7 +184,8 @@ impl Turns {
     }
 }
 
-/// A law of `actions` actions of which only the last does anything: it is member 0's way to its goal.
+/// A law of `actions` actions of which only the last does anything: it is member 0's way to its
+/// goal.
 pub fn last_action(actions: usize) -> Law {
     let (goal, never) = (1, 2);
     let mut rows = vec![[0, never, 0, goal, 0]; actions];
@@ -211,7 +222,11 @@ pub fn digits(random: &mut Random, digits: u32) -> Law {
 pub fn padded(law: Law, actions: usize) -> Law {
     let (never, own) = (1u64 << law.facts, law.actions.len());
     let unused = (own..actions).map(|_| [0, never, 0, never, never]);
-    Law { facts: law.facts + 1, actions: unused.chain(law.actions.iter().copied()).collect(), ..law }
+    Law {
+        facts: law.facts + 1,
+        actions: unused.chain(law.actions.iter().copied()).collect(),
+        ..law
+    }
 }
 
 /// The odometer with a goal on the way: every row after it is dead.

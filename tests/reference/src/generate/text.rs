@@ -25,7 +25,16 @@ pub fn damage(random: &mut Random, text: &mut Vec<u8>) {
             text.truncate(text.len().saturating_sub(2));
         }
         1 => text.truncate(text.len().saturating_sub(1)),
-        2 => text.extend(random.one_of(&[&b"\r\n"[..], b"\r", b"\n", b" ", b",", b"0", b"\0", b"\x1a"])),
+        2 => text.extend(random.one_of(&[
+            &b"\r\n"[..],
+            b"\r",
+            b"\n",
+            b" ",
+            b",",
+            b"0",
+            b"\0",
+            b"\x1a",
+        ])),
         3 => text.clear(),
         4 => {
             let place = at(random, text);

@@ -1,5 +1,5 @@
-//! The operations as the C interface lends them: a refusal number or 0, and the answer's numbers in `out`.
-//! The verdict stands apart, since its conflict is free.
+//! The operations as the C interface lends them: a refusal number or 0, and the answer's numbers in
+//! `out`. The verdict stands apart, since its conflict is free.
 
 use super::run::{self, Outcome, Pick, RUN};
 use super::solo::{self, Replay};
@@ -46,7 +46,13 @@ pub fn solo_replay(words: &[u64], member: u8, plan: &[u16], out: &mut [u64]) -> 
     }
 }
 
-pub fn solo_search(words: &[u64], member: u8, table: &mut [u64], marks: &mut [u8], out: &mut [u64]) -> u64 {
+pub fn solo_search(
+    words: &[u64],
+    member: u8,
+    table: &mut [u64],
+    marks: &mut [u8],
+    out: &mut [u64],
+) -> u64 {
     if out.len() < out_length::SOLO_SEARCH {
         return TOO_SHORT;
     }
@@ -56,7 +62,13 @@ pub fn solo_search(words: &[u64], member: u8, table: &mut [u64], marks: &mut [u8
     }
 }
 
-pub fn joint_replay(words: &[u64], plans: &[u16], ends: &[u64], picks: &[u8], out: &mut [u64]) -> u64 {
+pub fn joint_replay(
+    words: &[u64],
+    plans: &[u16],
+    ends: &[u64],
+    picks: &[u8],
+    out: &mut [u64],
+) -> u64 {
     if out.len() < out_length::JOINT_REPLAY {
         return TOO_SHORT;
     }
@@ -69,7 +81,14 @@ pub fn joint_replay(words: &[u64], plans: &[u16], ends: &[u64], picks: &[u8], ou
     }
 }
 
-pub fn pick(words: &[u64], plans: &[u16], ends: &[u64], run: &mut [u64], member: u8, out: &mut [u64]) -> u64 {
+pub fn pick(
+    words: &[u64],
+    plans: &[u16],
+    ends: &[u64],
+    run: &mut [u64],
+    member: u8,
+    out: &mut [u64],
+) -> u64 {
     if out.len() < out_length::PICK || run.len() < RUN {
         return TOO_SHORT;
     }

@@ -1,5 +1,6 @@
-//! The paper, read as plainly as possible: a state is a set of facts, a list is a list, and every search
-//! is a loop. Nothing here is fast, and no mask is taken apart except where a word comes in or goes out.
+//! The paper, read as plainly as possible: a state is a set of facts, a list is a list, and every
+//! search is a loop. Nothing here is fast, and no mask is taken apart except where a word comes in
+//! or goes out.
 //!
 //! Each operation takes the words as they are lent and leaves its lent slices as the paper says.
 

@@ -47,7 +47,8 @@ impl Run {
         Some(step(&task.actions[*entry as usize], &self.shared))
     }
 
-    /// Whether a member can be picked in a run that has not collided: a step is left and does not wait.
+    /// Whether a member can be picked in a run that has not collided: a step is left and does not
+    /// wait.
     fn possible(&self, task: &Task, plans: &[Vec<u16>], member: usize) -> bool {
         !matches!(self.next(task, plans, member), None | Some(Step::Wait))
     }
@@ -148,8 +149,8 @@ pub fn joint_replay(
     Ok(Replayed { outcome: run.outcome(&task, &plans), done, shared: run.shared })
 }
 
-/// A run of ten words that is handed in, with its task and plans. Places of members that the task does not have
-/// stay aside.
+/// A run of ten words that is handed in, with its task and plans. Places of members that the task
+/// does not have stay aside.
 fn handed_in(
     words: &[u64],
     plan_slice: &[u16],
