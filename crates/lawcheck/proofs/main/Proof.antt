@@ -32,7 +32,7 @@ array-share-prefix-text c = search needs
 
 slice-aggregate-verdict-file : tie.Need-slice-aggregate-verdict-file
 slice-aggregate-verdict-file c =
-    let f = c .before .before .before .before in
+    let f : tie.After-read-all = search in
     sym (length-take-le (f .read-all .result .bytes) (f .read-all .last .0) (f .read-all .ensures))
 
 verdict-file-requires : tie.Need-verdict-file-requires

@@ -36,9 +36,9 @@ same-length c = search needs
 
 returns : tie.Need-returns Inv-loop μ-loop
 returns c =
-    let r = c .before .before .before .before in
-    let l = r .before .before .before in
-    let s = l .before .before in
+    let r : tie.After-read Inv-loop μ-loop = search in
+    let l : tie.At-loop Inv-loop μ-loop = search in
+    let s : tie.Start Inv-loop μ-loop = search in
     back (length (l .loop .buf)) (length (s .args .buf .now)) (r .read .result) (l .loop .inv) (r .read .ensures)
     (search needs)
 
