@@ -7,7 +7,7 @@ use lib.ListN.{length, getD}
 use lib.Dec.{eqb, ltb}
 use borrow.Author.Tests.{lt-ltb, le-ltb, eq-eqb, ne-eqb}
 use mir.Val.{boolByte}
-use Rattle.semantics.specs.Base.{Answer, refused, gives}
+use Rattle.semantics.specs.Base.{Answer, refused, gives, front}
 use Rattle.semantics.specs.Step.{step}
 use Rattle.semantics.specs.Solo.{soloReplay, soloSearch, SoloSearch}
 use Rattle.semantics.specs.Run.{jointReplay, pickOn}
@@ -43,7 +43,7 @@ use Rattle.text.specs.declared.TextRead.{TextRead}
 use Rattle.text.specs.declared.TextRead.the-variants as textRead
 use Rattle.fault.specs.Value.{answerOf}
 use Rattle.fault.specs.declared.VerdictAnswer.{VerdictAnswer}
-use Rattle.capi_numbers.specs.Call.{Call, call, front, told, unlessShort, called, verdictCall}
+use Rattle.capi_numbers.specs.Call.{Call, call, told, unlessShort, called, verdictCall}
 use Rattle.capi_numbers.specs.Numbers as numbers
 use Rattle.capi_numbers.specs.Runs.{runWords, runIn, wordsOf, after}
 use Rattle.capi_numbers.proofs.Told.{byte}

@@ -5,7 +5,7 @@ use Prim.Native.Nat.{ℕ, zero, suc, _≤_, _<_}
 use native.Mathlib.Omega.{arith}
 use lib.ListN.{length}
 use borrow.Author.Tests.{lt-ltb, le-ltb}
-use Rattle.semantics.specs.Base.{gives, unless}
+use Rattle.semantics.specs.Base.{gives, unless, front}
 use Rattle.semantics.specs.Task.{check}
 use Rattle.semantics.specs.System.{system}
 use Rattle.semantics.specs.Run as Paper
@@ -18,7 +18,6 @@ use Rattle.run_dispatch.specs.declared.Started.{Started}
 use Rattle.run_play.specs.Value.{playFrom, playRefusal, answered, PlayMeans}
 use Rattle.run_play.specs.declared.Played.{Played}
 use Rattle.run_play.proofs.Laws.{leaves-none, leaves-some}
-use Rattle.capi_numbers.specs.Call.{front}
 use Rattle.capi_numbers.specs.Runs.{runWords, runIn, wordsOf}
 use Rattle.capi.specs.Play.{startRefusal, StartCall, refusesPlay, PlayCall}
 

@@ -4,12 +4,11 @@ use mathlib.Core.List.{List}
 use Prim.Native.Nat.{ℕ}
 use lib.ListN.{length}
 use lib.Dec.{ltb}
-use Rattle.semantics.specs.Base.{_if_, _else_, _leaves_otherwise_}
+use Rattle.semantics.specs.Base.{_if_, _else_, _leaves_otherwise_, front}
 use Rattle.semantics.specs.Task.{check}
 use Rattle.semantics.specs.System.{system}
 use Rattle.semantics.specs.Run.{start}
 use Rattle.run_play.specs.Value.{playFrom, playRefusal, answered}
-use Rattle.capi_numbers.specs.Call.{front}
 use Rattle.capi_numbers.specs.Runs.{runWords, runIn, wordsOf}
 
 -- 14 for too few words, then the task check

@@ -7,7 +7,7 @@ use native.Mathlib.Numerals.{add-one}
 use native.Mathlib.Omega.{arith}
 use lib.ListN.{length, getD, drop, set}
 use lib.Seq.{paste, paste-zero, paste-suc, length-paste, take-all}
-use Rattle.capi_numbers.specs.Call.{front}
+use Rattle.semantics.specs.Base.{front}
 
 -- the first i of the numbers are put
 pub record Putting (before numbers slice : List ℕ) (i : ℕ) : Type 0 where

@@ -2,6 +2,7 @@
 use mathlib.Core.Path.{_≡_, refl, sym, ap, _∙_}
 use mathlib.Core.List.{List, [], _∷_}
 use Prim.Native.Nat.{ℕ}
+use Rattle.semantics.specs.Base.{front}
 use Rattle.fault.specs.Value.{faultOf, verdictOf, answerOf}
 use Rattle.fault.specs.declared.Fault.{Fault}
 use Rattle.fault.specs.declared.Fault.the-variants.{Collision, Deadlock, Missed}
@@ -10,7 +11,7 @@ use Rattle.fault.specs.declared.Verdict.{Verdict}
 use Rattle.fault.specs.declared.Verdict.the-variants.{Unsolvable, NotRobust, Robust}
 use Rattle.fault.specs.declared.VerdictAnswer.{VerdictAnswer}
 use Rattle.fault.specs.declared.VerdictAnswer.the-variants as answer
-use Rattle.capi_numbers.specs.Call.{Call, call, front, told}
+use Rattle.capi_numbers.specs.Call.{Call, call, told}
 use Rattle.capi_numbers.specs.Numbers as numbers
 
 -- ---- a fault

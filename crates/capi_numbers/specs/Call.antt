@@ -1,10 +1,9 @@
 -- A call of the C interface: the number that it returns, and what `out` holds afterwards.
 use mathlib.Core.Path.{_≡_}
 use mathlib.Core.Bool.{Bool, true, false}
-use mathlib.Core.List.{List, _++_}
+use mathlib.Core.List.{List}
 use Prim.Native.Nat.{ℕ}
-use lib.ListN.{length, drop}
-use Rattle.semantics.specs.Base.{Answer, refused, gives}
+use Rattle.semantics.specs.Base.{Answer, refused, gives, front}
 use Rattle.semantics.specs.Verdict.{Verdict, Failing, Slices, VerdictMeans}
 
 pub record Call : Type 0 where
@@ -13,10 +12,6 @@ pub record Call : Type 0 where
 
 abbrev pub call : ℕ → List ℕ → Call
 call returned out = record { returned = returned; out = out }
-
--- numbers at the front of a slice, the rest as it was
-abbrev pub front : List ℕ → List ℕ → List ℕ
-front numbers slice = numbers ++ drop (length numbers) slice
 
 -- a refusal, and `out` as it was; or 0, and the answer's numbers at the front of `out`
 abbrev pub told : {A : Type 0} → (A → List ℕ) → List ℕ → Answer A → Call

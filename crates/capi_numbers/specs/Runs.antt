@@ -3,9 +3,8 @@ use mathlib.Core.List.{List, [], _∷_, _++_, map}
 use Prim.Native.Nat.{ℕ, zero, suc}
 use lib.ListN.{getD}
 use lib.Seq.{slice}
-use Rattle.semantics.specs.Base.{upTo, Answer, refused, gives}
+use Rattle.semantics.specs.Base.{upTo, Answer, refused, gives, front}
 use Rattle.semantics.specs.Run.{Fault, Closed, not-yet, by, Run, Replied}
-use Rattle.capi_numbers.specs.Call.{front}
 
 abbrev pub runWords : ℕ
 runWords = 10

@@ -4,10 +4,10 @@ use mathlib.Core.Path.{_≡_, refl, sym, ap, subst, _∙_}
 use mathlib.Core.Bool.{Bool, true, false, not, _&&_}
 use mathlib.Core.List.{List, [], _∷_, _++_, map, flatten}
 use Prim.Native.Nat.{ℕ, zero, suc, _+_, _-_, _*_, _/_, _≤_, _<_}
-use native.Mathlib.Nat.{mul-div-le, div-lt-iff-lt-mul}
+use native.Mathlib.Nat.{zero-add, mul-div-le, div-lt-iff-lt-mul}
 use native.Mathlib.Numerals.{add-one}
 use native.Mathlib.Omega.{arith}
-use lib.ListN.{length, getD, take, replicate, length-append, length-replicate, length-map, List·getD-append}
+use lib.ListN.{length, getD, take, drop, replicate, length-append, length-replicate, length-map, List·getD-append}
 use lib.Seq.{take-at}
 use lib.Dec.{eqb, ltb, leb}
 use borrow.Author.Tests.{eqb-true, le-ltb}
@@ -21,7 +21,7 @@ use Rattle.semantics.specs.System.{system, waits}
 use Rattle.semantics.specs.Verdict.{Verdict, unsolvable, notRobust, robust, Finding, Failing, Slices, room, tooShort}
 use Rattle.semantics.specs.Verdict.{Conflict, listedFor, VerdictIs, VerdictMeans, localRows, configurationRows}
 use Rattle.semantics.specs.Verdict.{verdictIn, verdict, lentOf}
-use Rattle.theory.proofs.Laid.{Laid, laid-length}
+use Rattle.theory.proofs.Laid.{Laid}
 use Rattle.theory.proofs.Lists.{and-elim}
 use Rattle.theory.proofs.Refusals.{else-both, if-not-true, refused-gives, gives-inj, unless-gives}
 use Rattle.theory.proofs.Accepted.{accepted, accepted-lawful}
@@ -33,7 +33,8 @@ use Rattle.run_plans.proofs.Laws.{part}
 use Rattle.report.specs.File.{word, header, line, file}
 use Rattle.report.specs.Inner.Put.{mostFile, Holds}
 use Rattle.program.specs.Program.{localWords, configurationWords, K, C, lentFor, Reports, PrintsFor, Prints}
-use Rattle.program.specs.Program.{AtFront, mostBytes}
+use Rattle.program.specs.Program.{AtFront}
+use Rattle.program.specs.Inner.Most.{mostBytes}
 
 -- ---- lengths
 
@@ -139,8 +140,26 @@ refused-nine t ok after answer k m e = at (verdict t (room (lentFor t))) refl m
 
 -- ---- what is put lies in the slice
 
+at-front : {P : List ℕ → Type 0} {bytes before after : List ℕ} {r : ℕ} → P bytes → Laid bytes before 0 after r
+    → AtFront P before after r
+at-front {bytes = bytes} {before = before} means l =
+    let counted = l .ends ∙ zero-add (length bytes) in
+    record {
+      bytes = bytes;
+      means = means;
+      count = counted;
+      inside = l .inside;
+      held = l .held ∙ ap (λ (k : ℕ). bytes ++ drop k before) counted;
+    }
+
 pub front-within : {P : List ℕ → Type 0} {before after : List ℕ} {r : ℕ} → AtFront P before after r → r ≤ length after
-front-within f = let l = f .laid in omega (arith, l .inside, laid-length l)
+front-within {before = before} f =
+    omega (
+      arith,
+      f .count,
+      ap length (f .held),
+      length-append (f .bytes) (drop (length (f .bytes)) before),
+    )
 
 -- ---- the slices of a conflict
 
@@ -211,17 +230,13 @@ module _ (t : List ℕ) (before after : Slices) (answer : Answer (Verdict Failin
       → (out out′ : List ℕ) (r : ℕ)
       → Laid (file answer n (after .plans) (after .ends) (after .picks)) out 0 out′ r → AtFront (Reports t) out out′ r
   reports lent means n e out out′ r l =
-      record {
-        bytes = file answer n (after .plans) (after .ends) (after .picks);
-        means =
-            record {
-              answer = answer;
-              after = after;
-              means = subst (λ (l : Slices). VerdictMeans t l after answer) lent means;
-              lines = ap (λ (k : ℕ). file answer k (after .plans) (after .ends) (after .picks)) e;
-            };
-        laid = l;
-      }
+      at-front {P = Reports t}
+      (record {
+        answer = answer;
+        after = after;
+        means = subst (λ (l : Slices). VerdictMeans t l after answer) lent means;
+        lines = ap (λ (k : ℕ). file answer k (after .plans) (after .ends) (after .picks)) e;
+      }) l
 
   -- the file fits
   pub file-fits : check t ≡ 0 → before ≡ lentFor t → length (after .plans) ≡ length (before .plans)
@@ -311,7 +326,9 @@ module _ (text words out : List ℕ) (zeros : words ≡ replicate mostWords 0) (
         means =
             subst (λ (a : Answer ℕ). PrintsFor a text (f .bytes)) (sym (w .answer) ∙ answered)
             (subst (λ (t : List ℕ). Reports t (f .bytes)) (w .words-read) (f .means));
-        laid = f .laid;
+        count = f .count;
+        inside = f .inside;
+        held = f .held;
       }
 
   pub prints-refusal : (k : ℕ) → r ≡ Refused k → {before after : List ℕ} {c : ℕ}
@@ -321,4 +338,4 @@ module _ (text words out : List ℕ) (zeros : words ≡ replicate mostWords 0) (
       let bytes = header ++ line (word "refused") k in
       let a : refused k ≡ readText text words .answer =
       ap (λ (q : TextRead). reading q out .answer) (sym f) ∙ ap (λ (q : Reading). q .answer) e in
-      record { bytes = bytes; means = subst (λ (a : Answer ℕ). PrintsFor a text bytes) (a ∙ answered) refl; laid = l }
+      at-front {P = Prints text} (subst (λ (a : Answer ℕ). PrintsFor a text bytes) (a ∙ answered) refl) l

@@ -1,16 +1,14 @@
 -- Document 01, "Text and verdict program": what the program lends the verdict, and the file that it makes of a text.
 use mathlib.Core.Path.{_≡_}
 use mathlib.Core.List.{List, _++_}
-use Prim.Native.Nat.{ℕ, _+_, _*_}
-use lib.ListN.{replicate}
-use Rattle.semantics.specs.Base.{Answer, refused, gives}
+use Prim.Native.Nat.{ℕ, _+_, _*_, _≤_}
+use lib.ListN.{length, replicate}
+use Rattle.semantics.specs.Base.{Answer, refused, gives, front}
 use Rattle.semantics.specs.Task.{members}
 use Rattle.semantics.specs.Text.{textWords, readText}
 use Rattle.semantics.specs.Verdict.{Verdict, Failing, Slices, localRows, configurationRows, VerdictMeans}
-use Rattle.theory.proofs.Laid.{Laid}
 use Rattle.text.specs.Post.{mostWords}
 use Rattle.report.specs.File.{word, header, line, file}
-use Rattle.report.specs.Inner.Put.{mostFile}
 
 -- the words of the local table
 abbrev pub localWords : ℕ
@@ -60,9 +58,6 @@ Prints text bytes = PrintsFor (readText text (replicate mostWords 0) .answer) te
 pub record AtFront (P : List ℕ → Type 0) (before after : List ℕ) (r : ℕ) : Type 0 where
   pub bytes : List ℕ
   pub means : P bytes
-  pub laid : Laid bytes before 0 after r
-
--- the bytes of the longest file: the verdict's line, eight plan lines, and lines for as many actions and picks as the
--- slices hold
-abbrev pub mostBytes : ℕ
-mostBytes = mostFile (1 + 8 + 8192 + 4096)
+  pub count : r ≡ length bytes
+  pub inside : r ≤ length before
+  pub held : after ≡ front bytes before

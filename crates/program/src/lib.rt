@@ -5,7 +5,8 @@ ghost use lib.ListN.{length, replicate};
 ghost use Rattle.semantics.specs.Verdict.{lentOf};
 ghost use Rattle.semantics.specs.Task.{check};
 ghost use Rattle.text.specs.Post.{mostWords};
-ghost use Rattle.program.specs.Program.{lentFor, Reports, Prints, AtFront, mostBytes};
+ghost use Rattle.program.specs.Program.{lentFor, Reports, Prints, AtFront};
+ghost use Rattle.program.specs.Inner.Most.{mostBytes};
 use text::TextRead;
 
 // The words of the longest text.

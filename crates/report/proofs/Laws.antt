@@ -12,12 +12,11 @@ use lib.Seq.{slice, drop-cons, getD-drop, length-slice, length-take-le}
 use lib.Dec.{ltb}
 use borrow.Author.Tests.{ltb-false, lt-ltb, le-ltb}
 use Rattle.semantics.specs.Base.{numbersFrom, Answer, refused, gives}
-use Rattle.semantics.specs.Text.{comma}
+use Rattle.semantics.specs.Text.{comma, digitsIn, digits}
 use Rattle.semantics.specs.Run.{beginning, planOf}
 use Rattle.semantics.specs.Verdict.{Verdict, unsolvable, notRobust, robust, Failing, conflictPicks}
 use Rattle.theory.proofs.Laid.{Laid, laid-none, laid-one, laid-append}
 use Rattle.theory.proofs.Lists.{lt-or-ge}
-use Rattle.text.specs.Inner.Written.{digitsIn, digits}
 use Rattle.report.specs.File.{word, lineEnd, line, lines, planLines, plansLines, conflictLines}
 use Rattle.report.specs.Inner.Put.{mostLine, Room, Inside, Holds, conflictOf}
 

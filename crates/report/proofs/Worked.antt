@@ -4,9 +4,9 @@ use mathlib.Core.List.{List, [], _∷_, _++_, flatten}
 use Prim.Native.Nat.{ℕ}
 use Prim.Native.String.{String}
 use Rattle.semantics.specs.Base.{numbersFrom, gives}
+use Rattle.semantics.specs.Text.{digitsIn}
 use Rattle.semantics.specs.Run.{Fault}
 use Rattle.semantics.specs.Verdict.{notRobust, robust}
-use Rattle.text.specs.Inner.Written.{digitsIn}
 use Rattle.report.specs.File.{word, lineEnd, lines, plansLines, file}
 
 abbrev row : String → List ℕ

@@ -5,10 +5,9 @@ use Prim.Native.Char.{code}
 use Prim.Native.String.{String, len, charAt}
 use lib.ListN.{take}
 use Rattle.semantics.specs.Base.{upTo, Answer, refused, gives}
-use Rattle.semantics.specs.Text.{comma, cr, lf}
+use Rattle.semantics.specs.Text.{comma, cr, lf, digits}
 use Rattle.semantics.specs.Run.{Fault, planOf}
 use Rattle.semantics.specs.Verdict.{Verdict, unsolvable, notRobust, robust, Failing, conflictPicks}
-use Rattle.text.specs.Inner.Written.{digits}
 
 -- the bytes of a word of ASCII letters
 unfoldable pub word : String → List ℕ

@@ -7,7 +7,7 @@ ghost use Prim.Native.Nat.{_+_, _≤_, _<_};
 ghost use lib.ListN.{length, getD};
 ghost use lib.Seq.{slice};
 ghost use Rattle.theory.proofs.Laid.{Laid};
-ghost use Rattle.text.specs.Inner.Written.{digits};
+ghost use Rattle.semantics.specs.Text.{digits};
 ghost use Rattle.semantics.specs.Base.{gives};
 ghost use Rattle.semantics.specs.Verdict.{notRobust, conflictPicks};
 ghost use Rattle.fault.specs.Value.{faultOf, failingOf, verdictOf, answerOf};

@@ -2,7 +2,7 @@
 use mathlib.Core.Bool.{Bool, true, false, cond, _&&_, _||_}
 use mathlib.Core.List.{List, [], _∷_, _++_}
 use Prim.Native.Nat.{ℕ, zero, suc, _-_}
-use lib.ListN.{length, replicate}
+use lib.ListN.{length, replicate, drop}
 
 -- the numbers k, k + 1, .., c of them
 unfoldable pub numbersFrom : ℕ → ℕ → List ℕ
@@ -70,6 +70,10 @@ unless r a = r leaves refused otherwise a
 -- xs at the front of a slice of n entries, zeros after it
 abbrev pub padded : ℕ → List ℕ → List ℕ
 padded n xs = xs ++ replicate (n - length xs) 0
+
+-- xs at the front of a slice, the rest as it was
+abbrev pub front : List ℕ → List ℕ → List ℕ
+front xs slice = xs ++ drop (length xs) slice
 
 -- a slice of as many entries, all zero
 abbrev pub zeroed : List ℕ → List ℕ

@@ -1,7 +1,7 @@
 -- Document 01, "Text and verdict program": what is a text of records, the words it gives, and the text reader.
 use mathlib.Core.Bool.{Bool, true, false, cond, not, _&&_}
 use mathlib.Core.List.{List, [], _∷_, _++_, map, foldl, flatten}
-use Prim.Native.Nat.{ℕ, _+_, _-_, _*_, _^_}
+use Prim.Native.Nat.{ℕ, zero, suc, _+_, _-_, _*_, _/_, _%_, _^_}
 use lib.ListN.{length}
 use lib.Dec.{eqb, ltb, leb}
 use Rattle.semantics.specs.Base.{allOf, _if_, _else_, Answer, refused, gives, _leaves_otherwise_, padded, zeroed}
@@ -46,6 +46,16 @@ fields record′ = fieldsFrom [] record′
 -- the number that digits write in base ten
 unfoldable pub number : List ℕ → ℕ
 number digits = foldl (λ x b. 10 * x + (b - 48)) 0 digits
+
+-- the digits of n in base ten; the first argument bounds the number of divisions, and n itself is bound enough
+unfoldable pub digitsIn : ℕ → ℕ → List ℕ
+digitsIn zero n = (48 + n) ∷ []
+digitsIn (suc most) n =
+    let more = digitsIn most (n / 10) ++ ((48 + n % 10) ∷ []) in
+    cond (ltb n 10) ((48 + n) ∷ []) more
+
+abbrev pub digits : ℕ → List ℕ
+digits n = digitsIn n n
 
 -- no leading zero, 0 itself excepted
 abbrev pub noLeadingZero : List ℕ → Bool

@@ -12,7 +12,7 @@ use borrow.Author.Tests.{ltb-true, ltb-false, ne-eqb}
 use Rattle.semantics.specs.Base.{allOf, gives, padded}
 use Rattle.semantics.specs.Task.{rowWidth, check}
 use Rattle.semantics.specs.Text.{comma, cr, lf, mostRecords, isDigit, recordsFrom, records, fieldsFrom, fields, number}
-use Rattle.semantics.specs.Text.{isField, isRecord, isText, textWords, readRecords, readText}
+use Rattle.semantics.specs.Text.{isField, isRecord, isText, textWords, readRecords, readText, digitsIn, digits}
 use Rattle.text.proofs.Lists.{cond-ind, and-left, and-right, all-append, all-one, all-cons, all-both}
 use Rattle.text.proofs.Lists.{number-snoc, number-one, digit-low, field-digits, field-none, field-one}
 use Rattle.text.proofs.Lists.{field-more, fields-comma, fields-byte, fields-last, record-made, records-end}
@@ -21,7 +21,7 @@ use Rattle.text.proofs.Steps.{digit}
 use Rattle.text.proofs.Scanning.{accepts}
 use Rattle.text.specs.Post.{mostWords, reading}
 use Rattle.text.specs.declared.TextRead.the-variants.{Gives}
-use Rattle.text.specs.Inner.Written.{digitsIn, digits, row, written, unended, isWord}
+use Rattle.text.specs.Inner.Written.{row, written, unended, isWord}
 
 -- ---- digits
 

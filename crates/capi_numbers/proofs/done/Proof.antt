@@ -2,7 +2,8 @@
 use mathlib.Core.Path.{ap, _∙_}
 use mathlib.Core.List.{List}
 use Prim.Native.Nat.{ℕ}
-use Rattle.capi_numbers.specs.Call.{call, front}
+use Rattle.semantics.specs.Base.{front}
+use Rattle.capi_numbers.specs.Call.{call}
 use borrow.Author.Needs.{needs}
 use Rattle.capi_numbers.proofs.done.Statement.{statement}
 use Rattle.capi_numbers.proofs.done.Tie as tie

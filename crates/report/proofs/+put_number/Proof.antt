@@ -5,7 +5,7 @@ use mathlib.Core.List.{List, [], _∷_}
 use Prim.Native.Nat.{ℕ, _+_, _/_, _%_, _<_}
 use native.Mathlib.Omega.{arith}
 use Rattle.theory.proofs.Laid.{Laid, laid-append}
-use Rattle.text.specs.Inner.Written.{digits}
+use Rattle.semantics.specs.Text.{digits}
 use Rattle.report.specs.Inner.Put.{Room}
 use Rattle.report.proofs.Laws.{room-first, room-then, digits-one, digits-more}
 use borrow.Fn.Kinds.{In}

@@ -1,21 +1,11 @@
 -- The text of words in rows of w: digits without leading zeros, commas between the fields of a row,
 -- CR LF after each row.
-use mathlib.Core.Bool.{Bool, cond}
+use mathlib.Core.Bool.{Bool}
 use mathlib.Core.List.{List, [], _∷_, _++_}
-use Prim.Native.Nat.{ℕ, zero, suc, _+_, _/_, _%_, _^_}
+use Prim.Native.Nat.{ℕ, zero, suc, _^_}
 use lib.ListN.{take, drop}
 use lib.Dec.{ltb}
-use Rattle.semantics.specs.Text.{comma, cr, lf}
-
--- the digits of n in base ten; the first argument bounds the number of divisions, and n itself is bound enough
-unfoldable pub digitsIn : ℕ → ℕ → List ℕ
-digitsIn zero n = (48 + n) ∷ []
-digitsIn (suc most) n =
-    let more = digitsIn most (n / 10) ++ ((48 + n % 10) ∷ []) in
-    cond (ltb n 10) ((48 + n) ∷ []) more
-
-abbrev pub digits : ℕ → List ℕ
-digits n = digitsIn n n
+use Rattle.semantics.specs.Text.{comma, cr, lf, digits}
 
 -- the fields of a row, with commas between them
 unfoldable pub row : List ℕ → List ℕ
