@@ -28,6 +28,42 @@ abbrev put-number-below : ℕ → In 1 put-number-kinds.ps
 put-number-below t =
     and 1 put-number-kinds.ps (falls 1 put-number-kinds.ps _<_ μ-put-number t) put-number.Pre
 
+-- ---- the places of the code
+
+abbrev Start : ℕ → Type 0
+Start t = put-number-lts.Start (
+  put-byte-reads.Asked,
+  put-byte-reads.Learnt,
+  put-number-below t,
+  put-number.Post,
+) (put-number-at t) put-number.Post
+
+abbrev After-byte : ℕ → Type 0
+After-byte t = put-number-lts.After-put-byte (
+  put-byte-reads.Asked,
+  put-byte-reads.Learnt,
+  put-number-below t,
+  put-number.Post,
+) (put-number-at t) put-number.Post
+
+abbrev After-front : ℕ → Type 0
+After-front t = put-number-lts.After-put-number (
+  put-byte-reads.Asked,
+  put-byte-reads.Learnt,
+  put-number-below t,
+  put-number.Post,
+) (put-number-at t) put-number.Post
+
+abbrev After-last : ℕ → Type 0
+After-last t = put-number-lts.After-put-byte2 (
+  put-byte-reads.Asked,
+  put-byte-reads.Learnt,
+  put-number-below t,
+  put-number.Post,
+) (put-number-at t) put-number.Post
+
+-- ---- the answers
+
 put-number-cast-put-byte : (t : ℕ) → put-number-lts.Need-cast-put-byte (
   put-byte-reads.Asked,
   put-byte-reads.Learnt,
@@ -51,7 +87,7 @@ put-number-put-byte-requires : (t : ℕ) → put-number-lts.Need-put-byte-requir
   put-number.Post,
 ) (put-number-at t) put-number.Post
 put-number-put-byte-requires t c κs =
-    let s = c .before .before .before in
+    let s : Start t = search in
     subst (λ (l : List ℕ). Room (s .args .out .now) (s .args .at) l) (digits-one (s .args .v) (omega arith)) (s .pre .1)
 
 put-number-same-length : (t : ℕ) → put-number-lts.Need-same-length (
@@ -69,8 +105,8 @@ put-number-returns : (t : ℕ) → put-number-lts.Need-returns (
   put-number.Post,
 ) (put-number-at t) put-number.Post
 put-number-returns t c =
-    let f = c .before .before in
-    let s = f .before .before .before .before in
+    let f : After-byte t = search in
+    let s : Start t = search in
     subst (λ (l : List ℕ). Laid l (s .args .out .now) (s .args .at) (f .put-byte .last .0) (f .put-byte .result))
     (sym (digits-one (s .args .v) (omega arith)))
     (f .put-byte .ensures)
@@ -82,7 +118,7 @@ put-number-put-number-requires : (t : ℕ) → put-number-lts.Need-put-number-re
   put-number.Post,
 ) (put-number-at t) put-number.Post
 put-number-put-number-requires t c κs =
-    let s = c .before .before .before in (
+    let s : Start t = search in (
       omega (arith, s .pre .0),
       room-first (digits (s .args .v / 10)) ((48 + s .args .v % 10) ∷ [])
           (subst (λ (l : List ℕ). Room (s .args .out .now) (s .args .at) l) (digits-more (s .args .v) (omega arith))
@@ -112,8 +148,8 @@ put-number-put-byte-requires-2 : (t : ℕ) → put-number-lts.Need-put-byte-requ
   put-number.Post,
 ) (put-number-at t) put-number.Post
 put-number-put-byte-requires-2 t c κs =
-    let f = c .before .before .before in
-    let s = f .before .before .before .before in
+    let f : After-front t = search in
+    let s : Start t = search in
     room-then
     (subst (λ (l : List ℕ). Room (s .args .out .now) (s .args .at) l) (digits-more (s .args .v) (omega arith))
     (s .pre .1)) (f .put-number .ensures) (f .put-number .kept .0)
@@ -133,9 +169,9 @@ put-number-returns-2 : (t : ℕ) → put-number-lts.Need-returns-2 (
   put-number.Post,
 ) (put-number-at t) put-number.Post
 put-number-returns-2 t c =
-    let g = c .before .before in
-    let f = g .before .before .before .before in
-    let s = f .before .before .before .before in
+    let g : After-last t = search in
+    let f : After-front t = search in
+    let s : Start t = search in
     subst (λ (l : List ℕ). Laid l (s .args .out .now) (s .args .at) (g .put-byte2 .last .0) (g .put-byte2 .result))
     (sym (digits-more (s .args .v) (omega arith)))
     (laid-append (f .put-number .ensures) (g .put-byte2 .ensures))

@@ -5,22 +5,18 @@ use Prim.Native.Nat.{ℕ, _+_, _<_}
 use native.Mathlib.Omega.{arith}
 use lib.ListN.{length, getD}
 use Rattle.semantics.specs.Task.{members, actions}
+use Rattle.semantics.specs.Run.{beginning}
 use Rattle.run_plans.proofs.Laws.{Part, checked-part, checked-step, plan-length, plan-at}
 use Rattle.run_plans.proofs.action.Statement.{statement}
 use Rattle.run_plans.proofs.action.Tie as tie
 
-abbrev start-of : tie.After-shared-slice-known3 → tie.Start
-start-of c = c .before .before .before
+its-part : (s : tie.Start) → let a = s .args in Part (members (a .t .now)) (a .plans .now) (a .ends .now) (a .j)
+its-part s = checked-part _ _ _ (s .args .j) (s .pre .0) (s .pre .1 .0)
 
-its-part : (c : tie.After-shared-slice-known3)
-    → let a = start-of c .args in Part (members (a .t .now)) (a .plans .now) (a .ends .now) (a .j)
-its-part c = let s = start-of c in checked-part _ _ _ (s .args .j) (s .pre .0) (s .pre .1 .0)
-
-inside : (c : tie.After-beginning)
-    → let a = start-of (c .before) .args in c .beginning .result + a .k < length (a .plans .now)
-inside c =
-    let s = start-of (c .before) in
-    let p = its-part (c .before) in
+-- the step lies in the plan slice
+inside : (s : tie.Start) → let a = s .args in beginning (a .ends .now) (a .j) + a .k < length (a .plans .now)
+inside s =
+    let p = its-part s in
     omega (
       arith,
       p .begins,
@@ -30,16 +26,24 @@ inside c =
     )
 
 beginning-requires : tie.Need-beginning-requires
-beginning-requires c κs = omega (arith, its-part c .many)
+beginning-requires c κs =
+    let s : tie.Start = search in
+    omega (arith, its-part s .many)
 
 add-at : tie.Need-add-at
-add-at c = omega (arith, inside c)
+add-at c =
+    let s : tie.Start = search in
+    omega (arith, inside s, c .beginning .ensures)
 
 mul-result : tie.Need-mul-result
-mul-result c = omega (arith, inside c)
+mul-result c =
+    let s : tie.Start = search in
+    omega (arith, inside s, c .beginning .ensures)
 
 shared-slice-read-result : tie.Need-shared-slice-read-result
-shared-slice-read-result c = omega (arith, inside (c .before))
+shared-slice-read-result c =
+    let s : tie.Start = search in
+    omega (arith, inside s, c .before .beginning .ensures)
 
 cast-result : tie.Need-cast-result
 cast-result c =
@@ -54,7 +58,7 @@ returns c =
     let s : tie.Start = search in
     let a = s .args in
     let same =
-    sym (plan-at (a .plans .now) (a .ends .now) (a .j) (its-part (c .before .before)) (a .k) (s .pre .1 .1)
+    sym (plan-at (a .plans .now) (a .ends .now) (a .j) (its-part s) (a .k) (s .pre .1 .1)
     ∙ ap (λ (b : ℕ). getD (a .plans .now) (b + a .k) 0) (sym (c .before .beginning .ensures))) in (
       same,
       subst (λ (x : ℕ). x < actions (a .t .now)) (sym same)

@@ -6,33 +6,49 @@ use Rattle.run_plans.proofs.Laws.{Part, part, part-refusal}
 use Rattle.run_plans.proofs.member_refusal.Statement.{statement}
 use Rattle.run_plans.proofs.member_refusal.Tie as tie
 
-abbrev start-of : tie.After-shared-slice-known3 → tie.Start
-start-of c = c .before .before .before
-
-its-part : (c : tie.After-shared-slice-known3)
-    → let a = start-of c .args in Part (members (a .t .now)) (a .plans .now) (a .ends .now) (a .j)
-its-part c = let s = start-of c in part _ _ _ (s .pre .1 .0) (s .args .j) (s .pre .1 .1)
+its-part : (s : tie.Start) → let a = s .args in Part (members (a .t .now)) (a .plans .now) (a .ends .now) (a .j)
+its-part s = part _ _ _ (s .pre .1 .0) (s .args .j) (s .pre .1 .1)
 
 beginning-requires : tie.Need-beginning-requires
-beginning-requires c κs = omega (arith, its-part c .many)
+beginning-requires c κs =
+    let s : tie.Start = search in
+    omega (arith, its-part s .many)
 
 mul-to : tie.Need-mul-to
-mul-to c = let p = its-part (c .before) in omega (arith, p .many, p .begins, p .within)
+mul-to c =
+    let s : tie.Start = search in
+    let p = its-part s in
+    omega (arith, p .many, p .begins, p .within)
 
 shared-slice-read-to : tie.Need-shared-slice-read-to
-shared-slice-read-to c = let p = its-part (c .before .before) in omega (arith, p .many, p .begins, p .within)
+shared-slice-read-to c =
+    let s : tie.Start = search in
+    let p = its-part s in
+    omega (arith, p .many, p .begins, p .within)
 
 mul-plan-refusal : tie.Need-mul-plan-refusal
-mul-plan-refusal c = let p = its-part (c .before .before) in omega (arith, p .many, p .begins, p .within)
+mul-plan-refusal c =
+    let s : tie.Start = search in
+    let p = its-part s in
+    omega (arith, p .many, p .begins, p .within)
 
 sub-plan-refusal : tie.Need-sub-plan-refusal
-sub-plan-refusal c = let p = its-part (c .before .before) in omega (arith, p .many, p .begins, p .within)
+sub-plan-refusal c =
+    let s : tie.Start = search in
+    let p = its-part s in
+    omega (arith, p .many, p .begins, p .within)
 
 part-plan-refusal-start : tie.Need-part-plan-refusal-start
-part-plan-refusal-start c = let p = its-part (c .before .before) in omega (arith, p .many, p .begins, p .within)
+part-plan-refusal-start c =
+    let s : tie.Start = search in
+    let p = its-part s in
+    omega (arith, p .many, p .begins, p .within)
 
 part-plan-refusal-end : tie.Need-part-plan-refusal-end
-part-plan-refusal-end c = let p = its-part (c .before .before) in omega (arith, p .many, p .begins, p .within)
+part-plan-refusal-end c =
+    let s : tie.Start = search in
+    let p = its-part s in
+    omega (arith, p .many, p .begins, p .within)
 
 plan-refusal-requires : tie.Need-plan-refusal-requires
 plan-refusal-requires c κs = search needs
@@ -40,11 +56,10 @@ plan-refusal-requires c κs = search needs
 returns : tie.Need-returns
 returns c =
     let beginning : tie.After-beginning = search in
-    let shared-slice-known3 : tie.After-shared-slice-known3 = search in
     let s : tie.Start = search in
     let a = s .args in
     let b = beginning .beginning in
-    let p = its-part shared-slice-known3 in
+    let p = its-part s in
     part-refusal (a .t .now) (a .plans .now) (a .ends .now) (a .j) (c .plan-refusal .result) (b .result) (b .ensures)
     (omega (arith, p .begins, b .ensures)) (c .plan-refusal .ensures)
 

@@ -5,30 +5,37 @@ use Rattle.run_plans.proofs.Laws.{Part, checked-part, plan-length}
 use Rattle.run_plans.proofs.steps.Statement.{statement}
 use Rattle.run_plans.proofs.steps.Tie as tie
 
-abbrev start-of : tie.After-shared-slice-known3 → tie.Start
-start-of c = c .before .before .before
-
-its-part : (c : tie.After-shared-slice-known3)
-    → let a = start-of c .args in Part (members (a .t .now)) (a .plans .now) (a .ends .now) (a .j)
-its-part c = let s = start-of c in checked-part _ _ _ (s .args .j) (s .pre .0) (s .pre .1)
+its-part : (s : tie.Start) → let a = s .args in Part (members (a .t .now)) (a .plans .now) (a .ends .now) (a .j)
+its-part s = checked-part _ _ _ (s .args .j) (s .pre .0) (s .pre .1)
 
 beginning-requires : tie.Need-beginning-requires
-beginning-requires c κs = omega (arith, its-part c .many)
+beginning-requires c κs =
+    let s : tie.Start = search in
+    omega (arith, its-part s .many)
 
 mul-result : tie.Need-mul-result
-mul-result c = let p = its-part (c .before) in omega (arith, p .many, p .begins, p .within)
+mul-result c =
+    let s : tie.Start = search in
+    let p = its-part s in
+    omega (arith, p .many, p .begins, p .within)
 
 shared-slice-read-result : tie.Need-shared-slice-read-result
-shared-slice-read-result c = let p = its-part (c .before .before) in omega (arith, p .many, p .begins, p .within)
+shared-slice-read-result c =
+    let s : tie.Start = search in
+    let p = its-part s in
+    omega (arith, p .many, p .begins, p .within)
 
 sub-result : tie.Need-sub-result
-sub-result c = let p = its-part (c .before .before) in omega (arith, p .many, p .begins, p .within)
+sub-result c =
+    let s : tie.Start = search in
+    let p = its-part s in
+    omega (arith, p .many, p .begins, p .within)
 
 returns : tie.Need-returns
 returns c =
     let s : tie.Start = search in
     let a = s .args in
-    omega (arith, plan-length (a .plans .now) (a .ends .now) (a .j) (its-part (c .before .before)))
+    omega (arith, plan-length (a .plans .now) (a .ends .now) (a .j) (its-part s))
 
 pub steps-spec : {M : Type 1} → statement M
 steps-spec =

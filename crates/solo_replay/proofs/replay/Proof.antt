@@ -1,7 +1,7 @@
 -- `solo_replay::replay` meets its contract: what the plan comes to from I is what its steps from k on come to. Assumes
 -- nothing.
 use borrow.Author.Needs.{needs}
-use Prim.Native.Nat.{_-_, _<_}
+use Prim.Native.Nat.{ℕ, _-_, _<_}
 use lib.ListN.{length, getD}
 use native.Mathlib.Omega.{arith}
 use Rattle.semantics.specs.Task.{actions}
@@ -33,20 +33,18 @@ shared-slice-read-a c = search needs
 cast-a : tie.Need-cast-a Inv-loop μ-loop
 cast-a c = omega (arith, c .shared-slice-known3 .given (c .before .before .loop .k))
 
-abbrev start-of : tie.In-loop Inv-loop μ-loop → tie.Start Inv-loop μ-loop
-start-of c = c .before .before .before .before .before
-
--- the step is an action
-inside : (c : tie.In-loop Inv-loop μ-loop)
-    → getD (start-of c .args .plan .now) (c .before .loop .k) 0 < actions (start-of c .args .t .now)
-inside c =
-    let s = start-of c in
+-- step k is an action
+inside : (s : tie.Start Inv-loop μ-loop) (k : ℕ) → k < length (s .args .plan .now)
+    → getD (s .args .plan .now) k 0 < actions (s .args .t .now)
+inside s k h =
     entry-action (s .args .t .now) (s .args .i) _
-    (accepted-at (entry (s .args .t .now) (s .args .i)) (s .args .plan .now) (s .pre .1 .1) (c .before .loop .k)
-    (omega arith))
+    (accepted-at (entry (s .args .t .now) (s .args .i)) (s .args .plan .now) (s .pre .1 .1) k h)
 
 local-act-requires : tie.Need-local-act-requires Inv-loop μ-loop
-local-act-requires c κs = (search needs, inside (c .before))
+local-act-requires c κs =
+    let s : tie.Start Inv-loop μ-loop = search in
+    let i : tie.In-loop Inv-loop μ-loop = search in
+    (search needs, inside s (i .before .loop .k) (omega arith))
 
 enum-known-r : tie.Need-enum-known-r Inv-loop μ-loop
 enum-known-r c = search needs
