@@ -29,7 +29,8 @@
  * member, the place in that slice at which its plan ends.
  *
  * A refusal writes nothing to any slice, except 9 (every lent writable slice but `out` is zero
- * afterwards) and lawcheck_read's 15 and task check (its words are zero afterwards).
+ * afterwards), lawcheck_read's 15 and task check (its words are zero afterwards), and every refusal
+ * of lawcheck_pddl_read but 14 (its words are zero afterwards, however few).
  */
 #ifndef LAWCHECK_H
 #define LAWCHECK_H
@@ -57,10 +58,14 @@ enum {
     LAWCHECK_NO_SOLUTION = 12, /* a plan does not solve */
     LAWCHECK_PICK = 13,        /* no step left, waiting, or already collided */
     LAWCHECK_SHORT = 14,       /* a lent slice is too short */
-    LAWCHECK_TEXT = 15         /* the text's form */
+    LAWCHECK_TEXT = 15,        /* the text's form, or the waits' */
+    LAWCHECK_PDDL = 16,        /* a text outside the subset of PDDL, or without a member */
+    LAWCHECK_NAME = 17,        /* a name or number unknown, named twice, or that differs */
+    LAWCHECK_MANY = 18         /* more facts, members or actions than a task allows */
 };
 
-/* Words of `out`, of a run, and of the reader's word slice. */
+/* Words of `out`, of a run, and of the reader's word slice; bytes that the writer's texts never
+ * exceed. */
 enum {
     LAWCHECK_STEP_OUT = 2,
     LAWCHECK_SOLO_REPLAY_OUT = 2,
@@ -69,8 +74,11 @@ enum {
     LAWCHECK_PICK_OUT = 1,
     LAWCHECK_VERDICT_OUT = 3,
     LAWCHECK_READ_OUT = 1,
+    LAWCHECK_PDDL_READ_OUT = 1,
+    LAWCHECK_PDDL_WRITE_OUT = 2,
     LAWCHECK_RUN_WORDS = 10,
-    LAWCHECK_TEXT_WORDS = 1325
+    LAWCHECK_TEXT_WORDS = 1325,
+    LAWCHECK_PDDL_BYTES = 1048576
 };
 
 /* out[0] of lawcheck_step. */
@@ -243,6 +251,45 @@ uint64_t lawcheck_verdict(const uint64_t *task, size_t task_len,
  */
 uint64_t lawcheck_read(const uint8_t *text, size_t text_len, uint64_t *words, size_t words_len,
                        uint64_t *out, size_t out_len);
+
+/* Reads a task from PDDL. The text has for each member a domain and then a problem, all of these
+ * sections in this order and nothing else:
+ *   (define (domain NAME) (:predicates (NAME)..)
+ *     (:action NAME :parameters () :precondition CONDITION :effect EFFECT)..)
+ *   (define (problem NAME) (:domain NAME) (:init (NAME)..) (:goal CONDITION))
+ * A condition is (NAME) or (and CONDITION..), at most 16 `and` deep; an effect may also have
+ * (not (NAME)). A name is a letter, then letters, digits, - and _, and neither `and` nor `not`.
+ * Letter case (A to Z) does not matter. Blanks are space, tab, CR and LF; a ; begins a comment,
+ * which may hold any byte and ends at LF or with the text.
+ *
+ * Facts are numbered as the predicates stand, actions as they stand in the whole text. The waits
+ * are records of two fields, action number and fact number, by the rules of lawcheck_read, any
+ * number of them.
+ *
+ * After an answer the words hold the task, then zeros.
+ * out: the number of records of the task, 1 + n + m.
+ * Refuses with 14 where out_len is below 1; 15 waits not as above; 16 a text with no member or not
+ * as above; 17 a name that is unknown (also where a problem's :domain is not the domain before it),
+ * a wait's number that is unknown, a predicate or, within one domain, an action named twice, or
+ * predicates (in order) or initial facts (as sets) that differ between members; 18 more than 64
+ * facts, 8 members or 256 actions; the task check; 14 where words_len is below 5 * (1 + n + m).
+ * Either 14 leaves the words as they were; every other refusal leaves them zero.
+ */
+uint64_t lawcheck_pddl_read(const uint8_t *text, size_t text_len,
+                            const uint8_t *waits, size_t waits_len,
+                            uint64_t *words, size_t words_len, uint64_t *out, size_t out_len);
+
+/* Writes a task as PDDL with its waits, in texts from which lawcheck_pddl_read reads the same task
+ * with its actions grouped by member, else in order. Names and layout are free.
+ *
+ * After an answer the two texts stand at the front of their slices, with zeros behind them.
+ * out: the lengths of text and waits.
+ * Refuses with 14 where out_len is below 2; the task check; 16 a task that the subset cannot hold
+ * (there is none yet); 14 a slice shorter than its text, never one of 1,048,576 bytes.
+ */
+uint64_t lawcheck_pddl_write(const uint64_t *task, size_t task_len,
+                             uint8_t *text, size_t text_len, uint8_t *waits, size_t waits_len,
+                             uint64_t *out, size_t out_len);
 
 #ifdef __cplusplus
 }

@@ -67,3 +67,45 @@ pub fn wide_text(records: usize) -> String {
     };
     text::of_words(&law.words())
 }
+
+/// A law in PDDL of just so many bytes: one member with 64 facts, an action whose effects go on and
+/// on, and blanks up to the last parenthesis.
+pub fn pddl_text(bytes: usize) -> String {
+    pddl_filled(bytes, |fact| format!(" (fact-number-{})", fact % 64))
+}
+
+/// The same, filled with comments and blanks.
+pub fn pddl_comments(bytes: usize) -> String {
+    pddl_filled(bytes, |_| "\n      ; what a person has to say of this law; in words\n".to_string())
+}
+
+fn pddl_filled(bytes: usize, piece: impl Fn(usize) -> String) -> String {
+    let facts: String = (0..64).map(|fact| format!(" (fact-number-{fact})")).collect();
+    let front = format!(
+        "(define (domain d)\n (:predicates{facts})\n (:action a\n  :parameters ()\n  \
+         :precondition (fact-number-0)\n  :effect (and"
+    );
+    let back = ")))\n(define (problem p)\n (:domain d)\n (:init)\n (:goal (and)))";
+    let mut text = front;
+    for number in 0.. {
+        let piece = piece(number);
+        if text.len() + piece.len() + back.len() > bytes {
+            break;
+        }
+        text += &piece;
+    }
+    let blanks = bytes.saturating_sub(text.len() + back.len());
+    text + &" ".repeat(blanks) + back
+}
+
+/// A task whose texts are as long as so many actions can make them.
+pub fn full(actions: usize) -> Vec<u64> {
+    let wide = u64::MAX;
+    let law = Law {
+        facts: 64,
+        initial: wide,
+        goals: vec![wide; 8],
+        actions: (0..actions as u64).map(|a| [a % 8, wide, wide, wide, wide]).collect(),
+    };
+    law.words()
+}

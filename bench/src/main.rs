@@ -37,6 +37,7 @@ fn main() {
         println!("The fast twin stands in the library's place.\n");
     }
     bench.tables();
+    bench.pddl();
     if !cfg!(feature = "mock") {
         bench.whole_run();
     }
@@ -249,6 +250,47 @@ impl Bench {
         );
         assert_eq!((one.returned, all.returned), (0, 0), "a pick or a replay is refused");
         (plans.len(), times)
+    }
+
+    /// Laws in PDDL; the rows are the text's bytes.
+    fn pddl(&self) {
+        growth("Laws in PDDL: rows are bytes of the text");
+        let coupons = include_str!("../../examples/coupons-2-in-order.pddl");
+        let waits = include_str!("../../examples/coupons-2-in-order.waits.csv");
+        grows([self.pddl_read("coupons", coupons, waits)]);
+        let sizes = [4 << 10, 16 << 10, 64 << 10, 256 << 10, 1 << 20];
+        grows(
+            sizes.map(|bytes| self.pddl_read("long effects", &laws::pddl_text(bytes), "0,0\r\n")),
+        );
+        grows(sizes.map(|bytes| self.pddl_read("comments", &laws::pddl_comments(bytes), "")));
+        let waits = [1 << 10, 4 << 10, 16 << 10, 64 << 10].map(|count| "0,0\r\n".repeat(count));
+        grows(waits.map(|waits| self.pddl_read("long waits", &laws::pddl_text(8 << 10), &waits)));
+        grows([16, 64, 256].map(|actions| self.pddl_write(actions)));
+    }
+
+    fn pddl_read(&self, name: &'static str, text: &str, waits: &str) -> Measured {
+        let run = |slices: &mut Slices| slices.pddl_read(text.as_bytes(), waits.as_bytes());
+        let actions = text.matches("(:action").count();
+        let bytes = text.len() + waits.len();
+        self.measure("PDDL reader", name, actions, run, |_| Ok(bytes))
+    }
+
+    /// Both sides write texts of their own spelling, which read back to one task.
+    fn pddl_write(&self, actions: usize) -> Measured {
+        let task = laws::full(actions);
+        let grouped = reference::paper::pddl::grouped(&task);
+        let [mut library, mut twin] = [Side::Library, Side::Twin].map(Slices::new);
+        let length = lawcheck::raw::PDDL_BYTES;
+        for slices in [&mut library, &mut twin] {
+            slices.pddl_write(&task, length);
+            assert_eq!(slices.returned, 0, "the writer refuses");
+            assert_eq!(slices.read_back(), Ok(grouped.clone()), "the writer's texts");
+        }
+        let rows = (twin.out[0] + twin.out[1]) as usize;
+        let times = self
+            .budget
+            .measure(|| library.pddl_write(&task, length), || twin.pddl_write(&task, length));
+        Measured { operation: "PDDL writer", law: "all facts everywhere", rows, actions, times }
     }
 
     fn reader(&self, records: usize) -> Measured {

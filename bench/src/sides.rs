@@ -2,6 +2,7 @@
 
 use reference::fast::Fast;
 use reference::interface::Interface;
+use reference::interface::Pddl;
 use reference::paper::conflict::Conflict;
 use reference::paper::run::Outcome;
 
@@ -27,6 +28,8 @@ pub struct Slices {
     ends: Vec<u64>,
     picks: Vec<u8>,
     words: Vec<u64>,
+    text: Vec<u8>,
+    waits: Vec<u8>,
     run: [u64; lawcheck::raw::RUN_WORDS],
     pub returned: u64,
     pub out: [u64; 4],
@@ -44,6 +47,8 @@ impl Slices {
             ends: vec![0; 8],
             picks: vec![0; CONFIGURATIONS / 2],
             words: vec![0; lawcheck::raw::TEXT_WORDS],
+            text: Vec::new(),
+            waits: Vec::new(),
             run: [0; lawcheck::raw::RUN_WORDS],
             returned: 0,
             out: [0; 4],
@@ -122,6 +127,31 @@ impl Slices {
             Side::Library => lawcheck::raw::read(text, &mut self.words, &mut self.out),
             Side::Twin => Fast.read(text, &mut self.words, &mut self.out),
         };
+    }
+
+    pub fn pddl_read(&mut self, text: &[u8], waits: &[u8]) {
+        self.returned = match self.side {
+            Side::Library => lawcheck::raw::pddl_read(text, waits, &mut self.words, &mut self.out),
+            Side::Twin => Fast.pddl_read(text, waits, &mut self.words, &mut self.out),
+        };
+    }
+
+    /// The texts go to slices of this length.
+    pub fn pddl_write(&mut self, task: &[u64], length: usize) {
+        let Slices { side, text, waits, out, .. } = self;
+        text.resize(length, 0);
+        waits.resize(length, 0);
+        self.returned = match side {
+            Side::Library => lawcheck::raw::pddl_write(task, text, waits, out),
+            Side::Twin => Fast.pddl_write(task, text, waits, out),
+        };
+    }
+
+    /// The task that the texts tell, by the second implementation; the writer's spelling is free.
+    pub fn read_back(&self) -> Result<Vec<u64>, u64> {
+        let [text, waits] = [(&self.text, 0), (&self.waits, 1)]
+            .map(|(slice, place)| &slice[..self.out[place] as usize]);
+        reference::paper::pddl::words(text, waits)
     }
 
     /// The configurations that a verdict listed, in rows of this many words; after a fault those

@@ -108,4 +108,26 @@ extern "C" {
         out: *mut u64,
         out_len: usize,
     ) -> u64;
+
+    pub fn lawcheck_pddl_read(
+        text: *const u8,
+        text_len: usize,
+        waits: *const u8,
+        waits_len: usize,
+        words: *mut u64,
+        words_len: usize,
+        out: *mut u64,
+        out_len: usize,
+    ) -> u64;
+
+    pub fn lawcheck_pddl_write(
+        task: *const u64,
+        task_len: usize,
+        text: *mut u8,
+        text_len: usize,
+        waits: *mut u8,
+        waits_len: usize,
+        out: *mut u64,
+        out_len: usize,
+    ) -> u64;
 }

@@ -52,7 +52,10 @@ refusals! {
     NoSolution = NO_SOLUTION: "a plan does not solve",
     Pick = PICK: "no step left, waiting, or already collided",
     Short = SHORT: "a lent slice is too short",
-    Text = TEXT: "the text's form",
+    Text = TEXT: "the text's form, or the waits'",
+    Pddl = PDDL: "a text outside the subset of PDDL, or without a member",
+    Name = NAME: "a name or number unknown, named twice, or that differs",
+    Many = MANY: "more facts, members or actions than a task allows",
 }
 
 impl Refusal {
@@ -382,4 +385,25 @@ pub fn read(text: &[u8]) -> Result<Vec<u64>, Refusal> {
     answered(raw::read(text, &mut words, &mut out))?;
     words.truncate(5 * out[0] as usize);
     Ok(words)
+}
+
+/// Reads a law in PDDL with its waits: the number of the task's records. The words then hold the
+/// task and zeros behind it; [`raw::TEXT_WORDS`] of them are enough for every task.
+pub fn pddl_read(text: &[u8], waits: &[u8], words: &mut [u64]) -> Result<usize, Refusal> {
+    let mut out = [0; raw::PDDL_READ_OUT];
+    answered(raw::pddl_read(text, waits, words, &mut out))?;
+    Ok(out[0] as usize)
+}
+
+/// Writes a task as PDDL with its waits: the lengths of the two texts, which then stand at the
+/// front of the slices with zeros behind them; [`raw::PDDL_BYTES`] are enough for every task. From
+/// them [`pddl_read`] gives the task with its actions grouped by member, else in order.
+pub fn pddl_write(
+    task: &[u64],
+    text: &mut [u8],
+    waits: &mut [u8],
+) -> Result<(usize, usize), Refusal> {
+    let mut out = [0; raw::PDDL_WRITE_OUT];
+    answered(raw::pddl_write(task, text, waits, &mut out))?;
+    Ok((out[0] as usize, out[1] as usize))
 }

@@ -16,9 +16,11 @@ macro_rules! constants {
 
 constants! {
     u64: LENGTH = 1, RANGE = 2, GOAL_ROW = 3, FACT = 4, OWNER = 5, WAIT = 6, ACTION = 7, MEMBER = 8,
-        FULL = 9, OTHERS = 10, ENDS = 11, NO_SOLUTION = 12, PICK = 13, SHORT = 14, TEXT = 15;
+        FULL = 9, OTHERS = 10, ENDS = 11, NO_SOLUTION = 12, PICK = 13, SHORT = 14, TEXT = 15,
+        PDDL = 16, NAME = 17, MANY = 18;
     usize: STEP_OUT = 2, SOLO_REPLAY_OUT = 2, SOLO_SEARCH_OUT = 2, JOINT_REPLAY_OUT = 4,
-        PICK_OUT = 1, VERDICT_OUT = 3, READ_OUT = 1, RUN_WORDS = 10, TEXT_WORDS = 1325;
+        PICK_OUT = 1, VERDICT_OUT = 3, READ_OUT = 1, PDDL_READ_OUT = 1, PDDL_WRITE_OUT = 2,
+        RUN_WORDS = 10, TEXT_WORDS = 1325, PDDL_BYTES = 1048576;
     u64: STEP_GO = 0, STEP_WAIT = 1, STEP_COLLISION = 2;
     u64: SOLVES = 0, BREAKS = 1, GOAL_SHORT = 2;
     u64: RUN_SUCCESS = 0, RUN_COLLISION = 1, RUN_DEADLOCK = 2, RUN_MISSED = 3, RUN_OPEN = 4;
@@ -216,6 +218,38 @@ pub fn read(text: &[u8], words: &mut [u64], out: &mut [u64]) -> u64 {
             text.len(),
             words.as_mut_ptr(),
             words.len(),
+            out.as_mut_ptr(),
+            out.len(),
+        )
+    }
+}
+
+/// The words of a law in PDDL with its waits. `out`: the number of records.
+pub fn pddl_read(text: &[u8], waits: &[u8], words: &mut [u64], out: &mut [u64]) -> u64 {
+    unsafe {
+        lawcheck_pddl_read(
+            text.as_ptr(),
+            text.len(),
+            waits.as_ptr(),
+            waits.len(),
+            words.as_mut_ptr(),
+            words.len(),
+            out.as_mut_ptr(),
+            out.len(),
+        )
+    }
+}
+
+/// A task as PDDL with its waits. `out`: the lengths of the two texts.
+pub fn pddl_write(task: &[u64], text: &mut [u8], waits: &mut [u8], out: &mut [u64]) -> u64 {
+    unsafe {
+        lawcheck_pddl_write(
+            task.as_ptr(),
+            task.len(),
+            text.as_mut_ptr(),
+            text.len(),
+            waits.as_mut_ptr(),
+            waits.len(),
             out.as_mut_ptr(),
             out.len(),
         )

@@ -12,7 +12,8 @@ use Rattle.semantics.specs.Step.{step}
 use Rattle.semantics.specs.Solo.{soloReplay, soloSearch, SoloSearch}
 use Rattle.semantics.specs.Run.{jointReplay, pickOn}
 use Rattle.semantics.specs.Run as Paper
-use Rattle.semantics.specs.Text.{readText, Reading}
+use Rattle.semantics.specs.PddlWrite.{Lengths, Writing}
+use Rattle.semantics.specs.Text.{Reading}
 use Rattle.semantics.specs.Verdict.{Slices, VerdictMeans}
 use Rattle.mask.specs.Number.{number}
 use Rattle.mask.specs.declared.Mask.{Mask}
@@ -39,6 +40,9 @@ use Rattle.run_pick.specs.declared.Answer.the-variants as answer
 use Rattle.theory.proofs.Lists.{or-left, or-right}
 use Rattle.run_pick.proofs.Laws.{means-gives, means-refused}
 use Rattle.text.specs.Post.{reading}
+use Rattle.pddl_write.specs.Post.{writing}
+use Rattle.pddl_write.specs.declared.Written.{Written}
+use Rattle.pddl_write.specs.declared.Written.the-variants as written
 use Rattle.text.specs.declared.TextRead.{TextRead}
 use Rattle.text.specs.declared.TextRead.the-variants as textRead
 use Rattle.fault.specs.Value.{answerOf}
@@ -262,42 +266,88 @@ module _ (t plans ends run out : List ℕ) (member : ℕ) where
           called-slice run (after run done) pickShort run′ fits′ (held ∙ sym (ap (after run) is)),
         )
 
--- ---- the text reader
+-- ---- the readers of a text and of PDDL
 
-module _ (text words out : List ℕ) where
+module _ (means : Reading) (words out : List ℕ) where
   abbrev ReadCall : List ℕ → Call → Type 0
   ReadCall words′ c =
-      (c ≡ called (ltb (length out) 1) numbers.records out (readText text words .answer))
-      × (words′ ≡ unlessShort (ltb (length out) 1) words (readText text words .words))
+      (c ≡ called (ltb (length out) 1) numbers.records out (means .answer))
+      × (words′ ≡ unlessShort (ltb (length out) 1) words (means .words))
 
   pub read-short : length out < 1 → ReadCall words (call 14 out)
   read-short h =
       let e = lt-ltb (length out) 1 h in (
-        short-call numbers.records out (readText text words .answer) (ltb (length out) 1) e,
-        short-slice words (readText text words .words) (ltb (length out) 1) e,
+        short-call numbers.records out (means .answer) (ltb (length out) 1) e,
+        short-slice words (means .words) (ltb (length out) 1) e,
       )
 
-  module _ (room : 1 ≤ length out) (s : TextRead) (words′ : List ℕ) (is : reading s words′ ≡ readText text words) where
-    slice′ : (c : Call) → c ≡ called (ltb (length out) 1) numbers.records out (readText text words .answer)
-        → ReadCall words′ c
+  module _ (room : 1 ≤ length out) (s : TextRead) (words′ : List ℕ) (is : reading s words′ ≡ means) where
+    slice′ : (c : Call) → c ≡ called (ltb (length out) 1) numbers.records out (means .answer) → ReadCall words′ c
     slice′ c e = (
       e,
-      called-slice words (readText text words .words) (ltb (length out) 1) words′ (long out 1 room)
+      called-slice words (means .words) (ltb (length out) 1) words′ (long out 1 room)
           (ap (λ (x : Reading). x .words) is),
     )
 
     pub read-refused : (k : ℕ) → s ≡ textRead.Refused k → ReadCall words′ (call k out)
     read-refused k so =
         slice′ (call k out)
-        (refused-call numbers.records out (readText text words .answer) (ltb (length out) 1) k (long out 1 room)
+        (refused-call numbers.records out (means .answer) (ltb (length out) 1) k (long out 1 room)
         (sym (ap (λ (x : Reading). x .answer) is) ∙ ap (λ (x : TextRead). reading x words′ .answer) so))
 
     pub read-given : (n : ℕ) (now : List ℕ) → s ≡ textRead.Gives n → now ≡ front (n ∷ []) out
         → ReadCall words′ (call 0 now)
     read-given n now so put =
         slice′ (call 0 now)
-        (given-call numbers.records out (readText text words .answer) (ltb (length out) 1) n now (long out 1 room)
+        (given-call numbers.records out (means .answer) (ltb (length out) 1) n now (long out 1 room)
         (sym (ap (λ (x : Reading). x .answer) is) ∙ ap (λ (x : TextRead). reading x words′ .answer) so)
+        put)
+
+-- ---- the writer of PDDL
+
+module _ (means : Writing) (text waits out : List ℕ) where
+  abbrev WriteCall : List ℕ → List ℕ → Call → Type 0
+  WriteCall text′ waits′ c =
+      (c ≡ called (ltb (length out) 2) numbers.lengths out (means .answer))
+      × ((text′ ≡ unlessShort (ltb (length out) 2) text (means .text))
+      × (waits′ ≡ unlessShort (ltb (length out) 2) waits (means .waits)))
+
+  pub write-short : length out < 2 → WriteCall text waits (call 14 out)
+  write-short h =
+      let e = lt-ltb (length out) 2 h in (
+        short-call numbers.lengths out (means .answer) (ltb (length out) 2) e,
+        (
+          short-slice text (means .text) (ltb (length out) 2) e,
+          short-slice waits (means .waits)
+              (ltb (length out) 2) e,
+        ),
+      )
+
+  module _ (room : 2 ≤ length out) (w : Written) (text′ waits′ : List ℕ) (is : writing w text′ waits′ ≡ means) where
+    written′ : (c : Call) → c ≡ called (ltb (length out) 2) numbers.lengths out (means .answer)
+        → WriteCall text′ waits′ c
+    written′ c e = (
+      e,
+      (
+        called-slice text (means .text) (ltb (length out) 2) text′ (long out 2 room) (ap (λ (x : Writing). x .text) is),
+        called-slice waits (means .waits) (ltb (length out) 2) waits′ (long out 2 room)
+            (ap (λ (x : Writing). x .waits) is),
+      ),
+    )
+
+    pub write-refused : (k : ℕ) → w ≡ written.Refused k → WriteCall text′ waits′ (call k out)
+    write-refused k so =
+        written′ (call k out)
+        (refused-call numbers.lengths out (means .answer) (ltb (length out) 2) k (long out 2 room)
+        (sym (ap (λ (x : Writing). x .answer) is) ∙ ap (λ (x : Written). writing x text′ waits′ .answer) so))
+
+    pub write-given : (a b : ℕ) (now : List ℕ) → w ≡ written.Gives a b → now ≡ front (a ∷ b ∷ []) out
+        → WriteCall text′ waits′ (call 0 now)
+    write-given a b now so put =
+        written′ (call 0 now)
+        (given-call numbers.lengths out (means .answer) (ltb (length out) 2) (record { ofText = a; ofWaits = b }) now
+        (long out 2 room)
+        (sym (ap (λ (x : Writing). x .answer) is) ∙ ap (λ (x : Written). writing x text′ waits′ .answer) so)
         put)
 
 -- ---- the verdict

@@ -10,12 +10,15 @@ ghost use Rattle.semantics.specs.Task.{check};
 ghost use Rattle.semantics.specs.Step.{step};
 ghost use Rattle.semantics.specs.Solo.{soloReplay, soloSearch};
 ghost use Rattle.semantics.specs.Run.{jointReplay, pickOn};
+ghost use Rattle.semantics.specs.Pddl.{readPddl};
+ghost use Rattle.semantics.specs.PddlWrite.{writePddl};
 ghost use Rattle.semantics.specs.Text.{readText};
 ghost use Rattle.capi_numbers.specs.Call.{call, unlessShort, called, verdictCall};
 ghost use Rattle.capi_numbers.specs.Numbers as numbers;
 ghost use Rattle.capi_numbers.specs.Runs.{runWords, runIn, after};
 ghost use Rattle.capi.specs.Play.{StartCall, PlayCall};
 use mask::Shared;
+use pddl_write::Written;
 use run_pick::Answer;
 use run_pick::ReplayAnswer;
 use solo_replay::SoloAnswer;
@@ -291,6 +294,67 @@ pub extern "C" fn lawcheck_read(text: &[u8], words: &mut [u64], out: &mut [u64])
         TextRead::Refused(k) => k,
         TextRead::Gives(n) => {
             let numbers = [n as u64];
+            capi_numbers::put(out, &numbers);
+            0
+        }
+    }
+}
+
+// ---- the reader and the writer of PDDL
+
+#[no_mangle]
+pub extern "C" fn lawcheck_pddl_read(
+    text: &[u8],
+    waits: &[u8],
+    words: &mut [u64],
+    out: &mut [u64],
+) -> u64
+    ensures { λ r. ⌜ call r (now (out .exit))
+        ≡ called (ltb (length (now (out .entry))) 1) numbers.records (now (out .entry))
+        (readPddl (now (text .entry)) (now (waits .entry)) (now (words .entry)) .answer) ⌝ }
+    ensures { λ _. ⌜ now (words .exit)
+        ≡ unlessShort (ltb (length (now (out .entry))) 1) (now (words .entry))
+        (readPddl (now (text .entry)) (now (waits .entry)) (now (words .entry)) .words) ⌝ }
+{
+    if out.len() < 1 {
+        return SHORT;
+    }
+    let s = pddl::read(text, waits, words);
+    match s {
+        TextRead::Refused(k) => k,
+        TextRead::Gives(n) => {
+            let numbers = [n as u64];
+            capi_numbers::put(out, &numbers);
+            0
+        }
+    }
+}
+
+#[no_mangle]
+pub extern "C" fn lawcheck_pddl_write(
+    t: &[u64],
+    text: &mut [u8],
+    waits: &mut [u8],
+    out: &mut [u64],
+) -> u64
+    ensures { λ r. ⌜ call r (now (out .exit))
+        ≡ called (ltb (length (now (out .entry))) 2) numbers.lengths (now (out .entry))
+        (writePddl (now (t .entry)) (now (text .entry)) (now (waits .entry)) .answer) ⌝ }
+    ensures { λ _. ⌜ now (text .exit)
+        ≡ unlessShort (ltb (length (now (out .entry))) 2) (now (text .entry))
+        (writePddl (now (t .entry)) (now (text .entry)) (now (waits .entry)) .text) ⌝ }
+    ensures { λ _. ⌜ now (waits .exit)
+        ≡ unlessShort (ltb (length (now (out .entry))) 2) (now (waits .entry))
+        (writePddl (now (t .entry)) (now (text .entry)) (now (waits .entry)) .waits) ⌝ }
+{
+    if out.len() < 2 {
+        return SHORT;
+    }
+    let w = pddl_write::write(t, text, waits);
+    match w {
+        Written::Refused(k) => k,
+        Written::Gives(a, b) => {
+            let numbers = [a as u64, b as u64];
             capi_numbers::put(out, &numbers);
             0
         }

@@ -4,6 +4,7 @@ use Prim.Native.Nat.{ℕ}
 use Rattle.semantics.specs.Base.{_if_}
 use Rattle.semantics.specs.Step.{Decision}
 use Rattle.semantics.specs.Solo.{Solo, solves, breaks, short, Searched}
+use Rattle.semantics.specs.PddlWrite.{Lengths}
 use Rattle.semantics.specs.Run.{Fault, Reply, Replied, Outcome, success, failure, still-open, Replay}
 use Rattle.semantics.specs.Verdict.{Verdict, unsolvable, notRobust, robust, Failing}
 
@@ -56,3 +57,7 @@ verdict (notRobust told) = failing (told .fault) (told .picked)
 -- records
 abbrev pub records : ℕ → List ℕ
 records n = n ∷ []
+
+-- the lengths of the two texts of a law in PDDL
+abbrev pub lengths : Lengths → List ℕ
+lengths l = l .ofText ∷ l .ofWaits ∷ []

@@ -3,6 +3,9 @@ pub mod Demands
 pub mod Listing
 pub mod Mask
 pub mod Model
+pub mod Pddl
+pub mod PddlDemands
+pub mod PddlWrite
 pub mod Run
 pub mod Solo
 pub mod Step

@@ -26,6 +26,8 @@ pub struct Checked {
 pub enum Input {
     Task(Vec<u64>),
     Text(Vec<u8>),
+    /// A law in PDDL and its waits.
+    Pddl(Vec<u8>, Vec<u8>),
 }
 
 /// A case that failed, to be printed.
@@ -161,6 +163,26 @@ pub fn command(text: &[u8]) -> String {
     command + "' | ./lawcheck"
 }
 
+/// The most bytes of a text that are printed.
+const SHOWN: usize = 20_000;
+
+/// Commands that put these bytes into a file.
+pub fn put_into(bytes: &[u8], file: &str) -> String {
+    let mut command = String::from("printf '");
+    for &byte in bytes {
+        match byte {
+            b'0'..=b'9' | b'a'..=b'z' | b'A'..=b'Z' | b'(' | b')' | b' ' => {
+                command.push(byte as char);
+            }
+            b':' | b';' | b',' | b'-' | b'_' => command.push(byte as char),
+            b'\r' => command.push_str("\\r"),
+            b'\n' => command.push_str("\\n"),
+            _ => command.push_str(&format!("\\x{byte:02x}")),
+        }
+    }
+    command + "' >" + file
+}
+
 impl fmt::Display for Failure {
     fn fmt(&self, to: &mut fmt::Formatter) -> fmt::Result {
         writeln!(to, "{}", self.operation)?;
@@ -178,6 +200,14 @@ impl fmt::Display for Failure {
                 writeln!(to, "{}", command(text.as_bytes()))?;
             }
             Input::Text(bytes) => writeln!(to, "{}", command(bytes))?,
+            Input::Pddl(text, waits) if text.len() + waits.len() > SHOWN => {
+                writeln!(to, "{} bytes, waits of {} bytes", text.len(), waits.len())?;
+            }
+            Input::Pddl(text, waits) => {
+                writeln!(to, "{}", put_into(text, "law.pddl"))?;
+                writeln!(to, "{}", put_into(waits, "waits.csv"))?;
+                writeln!(to, "./lawcheck --pddl law.pddl waits.csv")?;
+            }
         }
         for (name, value) in &self.others {
             writeln!(to, "  {name}: {value}")?;

@@ -11,8 +11,12 @@ pub struct Coverage {
     played: u64,
 }
 
-/// Every class that a comparison of full size has to meet, by operation.
-const ASKED: [(&str, &[u64], &[u64]); 10] = [
+/// The classes that a comparison of full size has to meet: an operation, its answers and its
+/// refusals.
+type Asked = (&'static str, &'static [u64], &'static [u64]);
+
+/// Those of the cases of laws in rows.
+pub const ASKED: &[Asked] = &[
     ("lawcheck_task", &[0], &[1, 2, 3, 4, 5, 6]),
     ("lawcheck_step", &[0, 1, 2], &[1, 2, 3, 4, 5, 6, 7, 14]),
     ("lawcheck_solo_replay", &[0, 1, 2], &[1, 2, 3, 4, 5, 6, 7, 8, 10, 14]),
@@ -23,6 +27,12 @@ const ASKED: [(&str, &[u64], &[u64]); 10] = [
     ("lawcheck_play", &[0, 1, 8, 13], &[1, 2, 3, 4, 5, 6, 7, 10, 11, 12, 14]),
     ("lawcheck_verdict", &[0, 1, 2, 3, 4], &[1, 2, 3, 4, 5, 6, 9, 14]),
     ("lawcheck_read", &[0], &[1, 2, 3, 4, 5, 6, 14, 15]),
+];
+
+/// Those of the cases of laws in PDDL.
+pub const PDDL: &[Asked] = &[
+    ("lawcheck_pddl_read", &[0], &[2, 6, 14, 15, 16, 17, 18]),
+    ("lawcheck_pddl_write", &[0], &[1, 2, 3, 4, 5, 6, 14]),
 ];
 
 impl Coverage {
@@ -43,9 +53,9 @@ impl Coverage {
     }
 
     /// The classes that no case met.
-    pub fn missing(&self) -> Vec<String> {
+    pub fn missing(&self, asked: &[Asked]) -> Vec<String> {
         let mut missing = Vec::new();
-        for (operation, answers, refusals) in ASKED {
+        for &(operation, answers, refusals) in asked {
             let answers = answers.iter().map(|&number| Class::Answer(number));
             let refusals = refusals.iter().map(|&number| Class::Refusal(number));
             for class in answers.chain(refusals) {
@@ -58,9 +68,9 @@ impl Coverage {
     }
 
     /// One line for each operation.
-    pub fn lines(&self) -> Vec<String> {
+    pub fn lines(&self, asked: &[Asked]) -> Vec<String> {
         let mut lines = Vec::new();
-        for (operation, ..) in ASKED {
+        for &(operation, ..) in asked {
             let mut line = format!("{operation}:");
             for ((_, class), count) in
                 self.counts.iter().filter(|((name, _), _)| *name == operation)
@@ -72,10 +82,12 @@ impl Coverage {
             }
             lines.push(line.trim_end_matches(',').to_string());
         }
-        lines.push(format!(
-            "verdicts beside brute force: {}, beside played runs: {}",
-            self.brute, self.played
-        ));
+        if self.brute + self.played > 0 {
+            lines.push(format!(
+                "verdicts beside brute force: {}, beside played runs: {}",
+                self.brute, self.played
+            ));
+        }
         lines
     }
 }

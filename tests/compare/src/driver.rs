@@ -1,9 +1,9 @@
 //! Runs the cases on some threads.
 
-use crate::case::Failure;
+use crate::case::{Checked, Failure};
 use crate::coverage::Coverage;
-use crate::operations;
-use reference::interface::Interface;
+use crate::operations::{self, pddl};
+use reference::interface::{Interface, Pddl};
 use reference::random::Random;
 use std::sync::atomic::{AtomicU64, Ordering};
 use std::thread;
@@ -35,11 +35,20 @@ pub struct Summary {
 
 /// Runs all cases.
 pub fn run(checked: &impl Interface, options: Options) -> Summary {
+    run_all(options, |case, random| operations::case(case, random, checked))
+}
+
+/// Runs all cases of laws in PDDL.
+pub fn run_pddl(checked: &impl Pddl, options: Options) -> Summary {
+    run_all(options, |case, random| pddl::case(case, random, checked))
+}
+
+fn run_all(options: Options, run: impl Fn(u64, &mut Random) -> Checked + Sync) -> Summary {
     let next = AtomicU64::new(0);
     let mut summary = Summary::default();
     thread::scope(|scope| {
         let threads: Vec<_> = (0..options.threads.max(1))
-            .map(|_| scope.spawn(|| part(checked, options, &next)))
+            .map(|_| scope.spawn(|| part(options, &next, &run)))
             .collect();
         for thread in threads {
             let part = thread.join().expect("a thread ends by itself");
@@ -54,7 +63,7 @@ pub fn run(checked: &impl Interface, options: Options) -> Summary {
 }
 
 /// Runs portions until none is left.
-fn part(checked: &impl Interface, options: Options, next: &AtomicU64) -> Summary {
+fn part(options: Options, next: &AtomicU64, run: &impl Fn(u64, &mut Random) -> Checked) -> Summary {
     let mut summary = Summary::default();
     loop {
         let begin = next.fetch_add(PORTION, Ordering::Relaxed);
@@ -62,7 +71,7 @@ fn part(checked: &impl Interface, options: Options, next: &AtomicU64) -> Summary
             return summary;
         }
         for case in begin..(begin + PORTION).min(options.cases) {
-            one(checked, options.seed, case, &mut summary);
+            note(case, run(case, &mut Random::new(options.seed, case)), &mut summary);
         }
         if options.stop && summary.failed > 0 {
             next.store(options.cases, Ordering::Relaxed);
@@ -72,7 +81,15 @@ fn part(checked: &impl Interface, options: Options, next: &AtomicU64) -> Summary
 
 /// Runs one case.
 pub fn one(checked: &impl Interface, seed: u64, case: u64, summary: &mut Summary) {
-    let ran = operations::case(case, &mut Random::new(seed, case), checked);
+    note(case, operations::case(case, &mut Random::new(seed, case), checked), summary);
+}
+
+/// Runs one case of a law in PDDL.
+pub fn one_pddl(checked: &impl Pddl, seed: u64, case: u64, summary: &mut Summary) {
+    note(case, pddl::case(case, &mut Random::new(seed, case), checked), summary);
+}
+
+fn note(case: u64, ran: Checked, summary: &mut Summary) {
     summary.coverage.count(&ran);
     match ran.failure {
         None => summary.passed += 1,

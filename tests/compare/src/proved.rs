@@ -1,6 +1,7 @@
 //! The C interface as an implementation to check.
 
 use reference::interface::Interface;
+use reference::interface::Pddl;
 
 /// The library that is linked.
 pub struct Proved;
@@ -85,5 +86,15 @@ impl Interface for Proved {
 
     fn read(&self, text: &[u8], words: &mut [u64], out: &mut [u64]) -> u64 {
         lawcheck::raw::read(text, words, out)
+    }
+}
+
+impl Pddl for Proved {
+    fn pddl_read(&self, text: &[u8], waits: &[u8], words: &mut [u64], out: &mut [u64]) -> u64 {
+        lawcheck::raw::pddl_read(text, waits, words, out)
+    }
+
+    fn pddl_write(&self, task: &[u64], text: &mut [u8], waits: &mut [u8], out: &mut [u64]) -> u64 {
+        lawcheck::raw::pddl_write(task, text, waits, out)
     }
 }

@@ -1,5 +1,6 @@
 //! The paper, the fast twin and brute force agree on generated tasks.
 
+use compare::coverage;
 use compare::driver::{run, Options};
 use compare::operations::sizes;
 use reference::fast::Fast;
@@ -13,5 +14,5 @@ fn the_fast_twin_agrees_with_the_paper() {
         println!("case {case}: {failure}");
     }
     assert_eq!((summary.passed, summary.failed), (options.cases, 0));
-    assert_eq!(summary.coverage.missing(), Vec::<String>::new());
+    assert_eq!(summary.coverage.missing(coverage::ASKED), Vec::<String>::new());
 }

@@ -35,7 +35,7 @@ fn what_is_no_number_is_an_error() {
 
 #[test]
 fn what_is_no_argument_is_an_error() {
-    let usage = "usage: compare [--cases N] [--seed S] [--threads T] [--case I]\n";
+    let usage = "usage: compare [--pddl] [--cases N] [--seed S] [--threads T] [--case I]\n";
     let wrong = (Some(2), String::new(), format!("compare: no such argument: --all\n{usage}"));
     assert_eq!(compare(&["--all"], &[]), wrong);
     let wrong = (Some(2), String::new(), format!("compare: --cases needs a number\n{usage}"));

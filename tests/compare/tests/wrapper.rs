@@ -31,13 +31,13 @@ fn the_constants_are_the_headers() {
 
 #[test]
 fn a_refusal_is_its_number() {
-    for number in 1..=15 {
-        let refusal = Refusal::of(number).expect("1 to 15 are refusals");
+    for number in 1..=18 {
+        let refusal = Refusal::of(number).expect("1 to 18 are refusals");
         assert_eq!(refusal.number(), number);
         assert!(refusal.to_string().starts_with(&format!("refused, {number}: ")), "{refusal}");
     }
-    assert_eq!((Refusal::of(0), Refusal::of(16)), (None, None));
-    assert_eq!(Refusal::ALL.len(), 15);
+    assert_eq!((Refusal::of(0), Refusal::of(19)), (None, None));
+    assert_eq!(Refusal::ALL.len(), 18);
 }
 
 /// Each refusal from a call that meets it.
@@ -161,4 +161,34 @@ fn verdicts_and_outcomes() {
         assert_eq!(replayed, told);
     }
     assert_eq!(verdict(&laws::l1(), &mut Room::new(2, 4, 11)), Err(Refusal::Full));
+}
+
+#[test]
+fn a_law_in_pddl_is_read_and_written() {
+    use lawcheck::{pddl_read, pddl_write};
+    let l1 = laws::l1();
+    let (mut text, mut waits) = (vec![7; raw::PDDL_BYTES], vec![7; raw::PDDL_BYTES]);
+    let (length, count) = pddl_write(&l1, &mut text, &mut waits).unwrap();
+    assert!(text[length..].iter().chain(&waits[count..]).all(|&byte| byte == 0));
+    let (text, waits) = (&text[..length], &waits[..count]);
+    let read = |text: &[u8], waits: &[u8]| {
+        let mut words = vec![7; raw::TEXT_WORDS];
+        let records = pddl_read(text, waits, &mut words)?;
+        assert!(words[5 * records..].iter().all(|&word| word == 0));
+        words.truncate(5 * records);
+        Ok(words)
+    };
+    assert_eq!(read(text, waits), Ok(l1.clone()));
+    assert_eq!(read(text, b""), Ok(laws::l2()));
+    assert_eq!(read(text, b"x"), Err(Refusal::Text));
+    assert_eq!(read(b"", waits), Err(Refusal::Pddl));
+    assert_eq!(read(text, b"4,0"), Err(Refusal::Name));
+    assert_eq!(read(&text.repeat(9), b""), Err(Refusal::Many));
+    assert_eq!(read(text, b"0,4"), Err(Refusal::Wait));
+    let (mut words, mut out) = ([7; 34], [7]);
+    assert_eq!(raw::pddl_read(text, waits, &mut words, &mut out), raw::SHORT);
+    assert_eq!(raw::pddl_read(text, b"x", &mut words, &mut []), raw::SHORT);
+    assert_eq!((words, out), ([7; 34], [7]));
+    assert_eq!(pddl_write(&l1[..34], &mut [], &mut []), Err(Refusal::Length));
+    assert_eq!(pddl_write(&l1, &mut [], &mut []), Err(Refusal::Short));
 }

@@ -2,7 +2,7 @@
 #![allow(clippy::missing_safety_doc, clippy::too_many_arguments)]
 
 use reference::fast::Fast;
-use reference::interface::Interface;
+use reference::interface::{Interface, Pddl};
 use std::slice::{from_raw_parts, from_raw_parts_mut};
 
 /// A slice that is lent to be read. An empty one may come with any pointer.
@@ -199,5 +199,43 @@ pub unsafe extern "C" fn lawcheck_play(
         lent_mut(run, run_len),
         lent(picks, picks_len),
         lent_mut(answers, answers_len),
+    )
+}
+
+#[no_mangle]
+pub unsafe extern "C" fn lawcheck_pddl_read(
+    text: *const u8,
+    text_len: usize,
+    waits: *const u8,
+    waits_len: usize,
+    words: *mut u64,
+    words_len: usize,
+    out: *mut u64,
+    out_len: usize,
+) -> u64 {
+    Fast.pddl_read(
+        lent(text, text_len),
+        lent(waits, waits_len),
+        lent_mut(words, words_len),
+        lent_mut(out, out_len),
+    )
+}
+
+#[no_mangle]
+pub unsafe extern "C" fn lawcheck_pddl_write(
+    task: *const u64,
+    task_len: usize,
+    text: *mut u8,
+    text_len: usize,
+    waits: *mut u8,
+    waits_len: usize,
+    out: *mut u64,
+    out_len: usize,
+) -> u64 {
+    Fast.pddl_write(
+        lent(task, task_len),
+        lent_mut(text, text_len),
+        lent_mut(waits, waits_len),
+        lent_mut(out, out_len),
     )
 }

@@ -12,6 +12,8 @@ pub mod out_length {
     pub const PICK: usize = 1;
     pub const VERDICT: usize = 3;
     pub const READ: usize = 1;
+    pub const PDDL_READ: usize = 1;
+    pub const PDDL_WRITE: usize = 2;
 }
 
 /// An implementation of the C interface. Each operation gives the refusal's number, or 0 for an
@@ -78,6 +80,13 @@ pub trait Interface: Sync {
     ) -> u64;
 
     fn read(&self, text: &[u8], words: &mut [u64], out: &mut [u64]) -> u64;
+}
+
+/// The C interface's reader and writer of laws in PDDL (request F-1).
+pub trait Pddl: Sync {
+    fn pddl_read(&self, text: &[u8], waits: &[u8], words: &mut [u64], out: &mut [u64]) -> u64;
+
+    fn pddl_write(&self, task: &[u64], text: &mut [u8], waits: &mut [u8], out: &mut [u64]) -> u64;
 }
 
 /// Writes an answer's numbers to the front of `out` and gives 0.

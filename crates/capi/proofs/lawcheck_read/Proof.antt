@@ -1,6 +1,7 @@
 -- `capi::lawcheck_read` meets its contract. Assumes nothing.
 use Rattle.capi.proofs.Calls.{read-short, read-refused, read-given}
 use borrow.Author.Needs.{needs}
+use Rattle.semantics.specs.Text.{readText}
 use Rattle.capi.proofs.lawcheck_read.Statement.{statement}
 use Rattle.capi.proofs.lawcheck_read.Tie as tie
 
@@ -8,7 +9,7 @@ returns : tie.Need-returns
 returns c =
     let s : tie.Start = search in
     let a = s .args in
-    read-short (a .text .now) (a .words .now) (a .out .now) (c .if1 .taken)
+    read-short (readText (a .text .now) (a .words .now)) (a .words .now) (a .out .now) (c .if1 .taken)
 
 read-requires : tie.Need-read-requires
 read-requires c κs = search needs
@@ -34,7 +35,8 @@ returns-2 c =
     let e = f .before .before in
     let s : tie.Start = search in
     let a = s .args in
-    read-refused (a .text .now) (a .words .now) (a .out .now) (e .if1 .left) (f .read .result) (f .read .last .1 .0)
+    read-refused (readText (a .text .now) (a .words .now)) (a .words .now) (a .out .now) (e .if1 .left)
+    (f .read .result) (f .read .last .1 .0)
     (f .read .ensures) (c .before .s .given .0 .0) (c .before .s .given .1)
 
 same-length-2 : tie.Need-same-length-2
@@ -51,7 +53,8 @@ returns-3 c =
     let s : tie.Start = search in
     let a = s .args in
     let m = s2 .s2 in
-    read-given (a .text .now) (a .words .now) (a .out .now) (e .if1 .left) (f .read .result) (f .read .last .1 .0)
+    read-given (readText (a .text .now) (a .words .now)) (a .words .now) (a .out .now) (e .if1 .left) (f .read .result)
+    (f .read .last .1 .0)
     (f .read .ensures) (m .given .0 .0) (c .before .before .put .last .0) (m .given .1)
     (c .before .before .put .ensures)
 

@@ -1,6 +1,7 @@
 //! One module for each group of operations: inputs, the paper's answer, the answer found, and what
 //! differs.
 
+pub mod pddl;
 mod read;
 mod run;
 pub mod sizes;

@@ -1,6 +1,7 @@
 //! The fast twin: masks, hash maps and early exits, as a Rust programmer would write it. It serves
 //! the benchmarks and stands in for the proved library where that is not built.
 
+pub mod pddl;
 mod run;
 mod solo;
 mod text;
@@ -11,7 +12,7 @@ pub use solo::{copies, Copies, DEAD};
 pub use text::read_words;
 pub use verdict::count_configurations;
 
-use crate::interface::{give, out_length, Interface, TOO_SHORT};
+use crate::interface::{give, out_length, Interface, Pddl, TOO_SHORT};
 
 /// An action of a checked task.
 #[derive(Clone, Copy, Debug)]
@@ -230,6 +231,22 @@ impl Interface for Fast {
             return TOO_SHORT;
         }
         given(out, text::read(text, words))
+    }
+}
+
+impl Pddl for Fast {
+    fn pddl_read(&self, text: &[u8], waits: &[u8], words: &mut [u64], out: &mut [u64]) -> u64 {
+        if out.len() < out_length::PDDL_READ {
+            return TOO_SHORT;
+        }
+        given(out, pddl::read_by::<pddl::Right>(text, waits, words))
+    }
+
+    fn pddl_write(&self, task: &[u64], text: &mut [u8], waits: &mut [u8], out: &mut [u64]) -> u64 {
+        if out.len() < out_length::PDDL_WRITE {
+            return TOO_SHORT;
+        }
+        given(out, pddl::write(task, text, waits))
     }
 }
 

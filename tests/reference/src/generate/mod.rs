@@ -3,6 +3,7 @@
 
 pub mod damage;
 pub mod families;
+pub mod pddl;
 pub mod plans;
 pub mod sizes;
 pub mod text;

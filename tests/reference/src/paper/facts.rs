@@ -22,6 +22,16 @@ impl Facts {
         Facts(facts)
     }
 
+    /// The set of these facts; one that is repeated counts once.
+    pub fn of_numbers(numbers: impl Iterator<Item = u64>) -> Facts {
+        Facts(numbers.collect())
+    }
+
+    /// Its facts, rising.
+    pub fn numbers(&self) -> impl Iterator<Item = u64> + '_ {
+        self.0.iter().copied()
+    }
+
     /// The word that stands for the set.
     pub fn word(&self) -> u64 {
         self.0.iter().map(|&fact| 2u64.pow(fact as u32)).sum()

@@ -4,7 +4,7 @@
 use super::run::{self, Outcome, Pick, RUN};
 use super::solo::{self, Replay};
 use super::step::{self, Step};
-use super::{task, text};
+use super::{pddl, task, text};
 use crate::interface::{give, out_length, TOO_SHORT};
 
 /// An outcome's number and member.
@@ -139,5 +139,25 @@ pub fn read(bytes: &[u8], words: &mut [u64], out: &mut [u64]) -> u64 {
     match text::read(bytes, words) {
         Err(refusal) => refusal,
         Ok(records) => give(out, &[records as u64]),
+    }
+}
+
+pub fn pddl_read(text: &[u8], waits: &[u8], words: &mut [u64], out: &mut [u64]) -> u64 {
+    if out.len() < out_length::PDDL_READ {
+        return TOO_SHORT;
+    }
+    match pddl::read(text, waits, words) {
+        Err(refusal) => refusal,
+        Ok(records) => give(out, &[records as u64]),
+    }
+}
+
+pub fn pddl_write(task: &[u64], text: &mut [u8], waits: &mut [u8], out: &mut [u64]) -> u64 {
+    if out.len() < out_length::PDDL_WRITE {
+        return TOO_SHORT;
+    }
+    match pddl::write(task, text, waits) {
+        Err(refusal) => refusal,
+        Ok(lengths) => give(out, &lengths.map(|length| length as u64)),
     }
 }

@@ -7,6 +7,7 @@
 pub mod conflict;
 pub mod facts;
 pub mod interface;
+pub mod pddl;
 pub mod run;
 pub mod solo;
 pub mod step;

@@ -26,7 +26,7 @@ pub fn words(text: &[u8]) -> Option<Vec<u64>> {
 }
 
 /// Splits a text at CR LF. The last record may lack it; the empty text has no record.
-fn records(text: &[u8]) -> Vec<&[u8]> {
+pub(super) fn records(text: &[u8]) -> Vec<&[u8]> {
     let mut records = Vec::new();
     let mut begin = 0;
     let mut at = 0;
@@ -46,7 +46,7 @@ fn records(text: &[u8]) -> Vec<&[u8]> {
 }
 
 /// A field: digits without a leading zero, at most 2^64 - 1.
-fn number(field: &[u8]) -> Option<u64> {
+pub(super) fn number(field: &[u8]) -> Option<u64> {
     let digits = std::str::from_utf8(field).ok()?;
     let plain = !digits.is_empty() && digits.bytes().all(|byte| byte.is_ascii_digit());
     if !plain || (digits.len() > 1 && digits.starts_with('0')) {

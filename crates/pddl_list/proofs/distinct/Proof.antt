@@ -1,0 +1,62 @@
+-- `pddl_list::distinct` meets its contract.
+use borrow.Author.Needs.{needs}
+use native.Mathlib.Omega.{arith}
+use Prim.Native.Nat.{_-_}
+use lib.ListN.{length}
+use Rattle.pddl_form.proofs.Lists.{atom-onward}
+use Rattle.semantics.specs.Pddl.{noneTwice}
+use Rattle.pddl_list.proofs.Asking.{Asking, asking-begin, distinct-not, distinct-on, distinct-end}
+use Rattle.pddl_list.proofs.distinct.Statement.{statement}
+use Rattle.pddl_list.proofs.distinct.Tie as tie
+
+abbrev Inv-loop : tie.InvT-loop
+Inv-loop text at i₀ i = Asking noneTwice text at i
+
+abbrev μ-loop : tie.MeasureT-loop
+μ-loop text at i₀ i = length text - i
+
+loop-holds : tie.Need-loop-holds Inv-loop μ-loop
+loop-holds c = search asking-begin
+
+atom-at-requires : tie.Need-atom-at-requires Inv-loop μ-loop
+atom-at-requires c κs = search needs
+
+enum-known-behind : tie.Need-enum-known-behind Inv-loop μ-loop
+enum-known-behind c = search needs
+
+stands-requires : tie.Need-stands-requires Inv-loop μ-loop
+stands-requires c κs = search needs
+
+returns : tie.Need-returns Inv-loop μ-loop
+returns c = search (needs, distinct-not)
+
+loop-less : tie.Need-loop-less Inv-loop μ-loop
+loop-less c =
+    let b : tie.After-behind Inv-loop μ-loop = search in
+    let a : tie.After-atom-at Inv-loop μ-loop = search in
+    omega (arith, atom-onward (a .atom-at .ensures) _ (b .behind .given .1))
+
+loop-again : tie.Need-loop-again Inv-loop μ-loop
+loop-again c = search (needs, distinct-on)
+
+enum-told : tie.Need-enum-told Inv-loop μ-loop
+enum-told c = search needs
+
+returns-2 : tie.Need-returns-2 Inv-loop μ-loop
+returns-2 c = search (needs, distinct-end)
+
+pub distinct-spec : {M : Type 1} → statement M
+distinct-spec =
+    tie.close
+    (tie.spec
+    Inv-loop
+    μ-loop
+    loop-holds
+    atom-at-requires
+    enum-known-behind
+    stands-requires
+    returns
+    loop-less
+    loop-again
+    enum-told
+    returns-2)

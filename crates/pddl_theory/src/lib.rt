@@ -1,0 +1,1 @@
+// Laws about the meaning of PDDL; no code.

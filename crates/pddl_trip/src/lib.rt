@@ -1,0 +1,1 @@
+// What the PDDL writer writes reads back; laws only, no code.

@@ -1,0 +1,4 @@
+pub mod Bound
+pub mod Laws
+pub mod Ways
+pub mod Worked

@@ -1,0 +1,63 @@
+; The law of coupons-2-in-order.csv; actions and facts are numbered as they stand here.
+
+(define (domain retailer)
+  (:predicates
+    (claims-file-is-free)
+    (ledger-is-free)
+    (retailer-has-the-claims-file)
+    (retailer-has-the-ledger)
+    (maker-has-the-claims-file)
+    (maker-has-the-ledger)
+    (claim-is-posted)
+    (payment-is-posted))
+  (:action takes-the-claims-file ; action 0, waits for claims-file-is-free
+    :parameters ()
+    :precondition (claims-file-is-free)
+    :effect (and (retailer-has-the-claims-file) (not (claims-file-is-free))))
+  (:action takes-the-ledger ; action 1, waits for ledger-is-free
+    :parameters ()
+    :precondition (and (ledger-is-free) (retailer-has-the-claims-file))
+    :effect (and (retailer-has-the-ledger) (not (ledger-is-free))))
+  (:action posts-the-claim ; action 2
+    :parameters ()
+    :precondition (and (retailer-has-the-claims-file) (retailer-has-the-ledger))
+    :effect (and (claims-file-is-free)
+      (ledger-is-free)
+      (claim-is-posted)
+      (not (retailer-has-the-claims-file))
+      (not (retailer-has-the-ledger)))))
+(define (problem retailer)
+  (:domain retailer)
+  (:init (claims-file-is-free) (ledger-is-free))
+  (:goal (and (claims-file-is-free) (ledger-is-free) (claim-is-posted))))
+
+(define (domain maker)
+  (:predicates
+    (claims-file-is-free)
+    (ledger-is-free)
+    (retailer-has-the-claims-file)
+    (retailer-has-the-ledger)
+    (maker-has-the-claims-file)
+    (maker-has-the-ledger)
+    (claim-is-posted)
+    (payment-is-posted))
+  (:action takes-the-claims-file ; action 3, waits for claims-file-is-free
+    :parameters ()
+    :precondition (claims-file-is-free)
+    :effect (and (maker-has-the-claims-file) (not (claims-file-is-free))))
+  (:action takes-the-ledger ; action 4, waits for ledger-is-free
+    :parameters ()
+    :precondition (and (ledger-is-free) (maker-has-the-claims-file))
+    :effect (and (maker-has-the-ledger) (not (ledger-is-free))))
+  (:action posts-the-payment ; action 5
+    :parameters ()
+    :precondition (and (maker-has-the-claims-file) (maker-has-the-ledger))
+    :effect (and (claims-file-is-free)
+      (ledger-is-free)
+      (payment-is-posted)
+      (not (maker-has-the-claims-file))
+      (not (maker-has-the-ledger)))))
+(define (problem maker)
+  (:domain maker)
+  (:init (claims-file-is-free) (ledger-is-free))
+  (:goal (and (claims-file-is-free) (ledger-is-free) (payment-is-posted))))
