@@ -60,7 +60,7 @@ enum {
     LAWCHECK_SHORT = 14,       /* a lent slice is too short */
     LAWCHECK_TEXT = 15,        /* the text's form, or the waits' */
     LAWCHECK_PDDL = 16,        /* a text outside the subset of PDDL, or without a member */
-    LAWCHECK_NAME = 17,        /* a name or number unknown, named twice, or that differs */
+    LAWCHECK_NAME = 17,        /* a name or number unknown, a name twice, or members that differ */
     LAWCHECK_MANY = 18         /* more facts, members or actions than a task allows */
 };
 
@@ -262,11 +262,12 @@ uint64_t lawcheck_read(const uint8_t *text, size_t text_len, uint64_t *words, si
  * Letter case (A to Z) does not matter. Blanks are space, tab, CR and LF; a ; begins a comment,
  * which may hold any byte and ends at LF or with the text.
  *
- * Facts are numbered as the predicates stand, actions as they stand in the whole text. The waits
- * are records of two fields, action number and fact number, by the rules of lawcheck_read, any
- * number of them.
+ * Facts are numbered from 0 as the predicates stand, members and actions from 0 as they stand in
+ * the whole text. The waits say which preconditions are waited for: records of two fields, action
+ * number and fact number, by the rules of lawcheck_read, any number of them; waits_len is 0 where
+ * nothing is waited for.
  *
- * After an answer the words hold the task, then zeros.
+ * After an answer the words hold the task, then zeros. LAWCHECK_TEXT_WORDS are enough for any task.
  * out: the number of records of the task, 1 + n + m.
  * Refuses with 14 where out_len is below 1; 15 waits not as above; 16 a text with no member or not
  * as above; 17 a name that is unknown (also where a problem's :domain is not the domain before it),
@@ -280,12 +281,14 @@ uint64_t lawcheck_pddl_read(const uint8_t *text, size_t text_len,
                             uint64_t *words, size_t words_len, uint64_t *out, size_t out_len);
 
 /* Writes a task as PDDL with its waits, in texts from which lawcheck_pddl_read reads the same task
- * with its actions grouped by member, else in order. Names and layout are free.
+ * with its actions grouped by member, else in order. A task has no names, so the writer makes some;
+ * which ones, and the layout, is not promised.
  *
  * After an answer the two texts stand at the front of their slices, with zeros behind them.
- * out: the lengths of text and waits.
+ * out: the lengths of text and waits, in bytes.
  * Refuses with 14 where out_len is below 2; the task check; 16 a task that the subset cannot hold
- * (there is none yet); 14 a slice shorter than its text, never one of 1,048,576 bytes.
+ * (there is none yet); 14 a slice shorter than its text, never one of LAWCHECK_PDDL_BYTES. A
+ * refusal writes nothing.
  */
 uint64_t lawcheck_pddl_write(const uint64_t *task, size_t task_len,
                              uint8_t *text, size_t text_len, uint8_t *waits, size_t waits_len,

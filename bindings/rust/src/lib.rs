@@ -54,7 +54,7 @@ refusals! {
     Short = SHORT: "a lent slice is too short",
     Text = TEXT: "the text's form, or the waits'",
     Pddl = PDDL: "a text outside the subset of PDDL, or without a member",
-    Name = NAME: "a name or number unknown, named twice, or that differs",
+    Name = NAME: "a name or number unknown, a name twice, or members that differ",
     Many = MANY: "more facts, members or actions than a task allows",
 }
 

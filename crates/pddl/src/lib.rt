@@ -1,5 +1,5 @@
-// The reader of laws in PDDL: a text with a domain and a problem for each member, and a text of waits,
-// in; the words of the task out.
+// The reader of laws in PDDL: a text with a domain and a problem for each member, and a text of
+// waits, in; the words of the task out.
 ghost use mathlib.Core.Path.{_≡_};
 ghost use Prim.Native.Nat.{_≤_};
 ghost use lib.ListN.{length};
@@ -18,8 +18,8 @@ const MOST_MEMBERS: usize = 8;
 
 const MOST_ACTIONS: usize = 256;
 
-// What is read before the word slice is looked at: the first refusal, 0 where there is none, and then
-// the number of the task's rows.
+// What is read before the word slice is looked at: the first refusal, 0 where there is none, and
+// then the number of the task's rows.
 pub struct Law {
     pub refusal: u64,
     pub records: usize,
@@ -166,8 +166,8 @@ fn law_in(text: &[u8], waits: &[u8], table: &mut [u64]) -> Law
     }
 }
 
-// The reader: the task's words go to the front of the slice, zeros after them, and the answer is the
-// number of records; or a refusal.
+// The reader: the task's words go to the front of the slice, zeros after them, and the answer is
+// the number of records; or a refusal.
 pub fn read(text: &[u8], waits: &[u8], words: &mut [u64]) -> text::TextRead
     ensures { λ r. ⌜ reading r (now (words .exit))
         ≡ readPddl (now (text .entry)) (now (waits .entry)) (now (words .entry)) ⌝ }

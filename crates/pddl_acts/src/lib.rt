@@ -1,5 +1,5 @@
-// The actions of a domain, from an offset on: how many, whether a name stands twice, whether all facts
-// that they name are known.
+// The actions of a domain, from an offset on: how many, whether a name stands twice, whether all
+// facts that they name are known.
 ghost use mathlib.Core.Path.{_≡_};
 ghost use mathlib.Core.List.{_++_};
 ghost use Prim.Native.Nat.{_≤_, _*_};

@@ -1,5 +1,6 @@
-// Places in a text of PDDL, and what stands at them: fixed tokens, names, atoms, lists of atoms. Each
-// function goes on from a place to the one behind what it reads; outside the subset it stays outside.
+// Places in a text of PDDL, and what stands at them: fixed tokens, names, atoms, lists of atoms.
+// Each function goes on from a place to the one behind what it reads; outside the subset it stays
+// outside.
 ghost use mathlib.Core.Path.{_≡_};
 ghost use Prim.Native.Nat.{_≤_};
 ghost use lib.ListN.{length};

@@ -1,5 +1,6 @@
-// Lists of atoms of a text of PDDL, each from an offset on: how many, whether two are alike, whether
-// a name stands twice, whether one list has all names of another, and a table of the first names.
+// Lists of atoms of a text of PDDL, each from an offset on: how many, whether two are alike,
+// whether a name stands twice, whether one list has all names of another, and a table of the first
+// names.
 ghost use mathlib.Core.Path.{_≡_};
 ghost use Prim.Native.Nat.{_≤_, _*_};
 ghost use lib.ListN.{length};

@@ -29,7 +29,8 @@ pub fn to_small(b: u8) -> u8
 // Is the part s..e of a text the same word as the part t..u of another?
 pub fn same(text: &[u8], s: usize, e: usize, other: &[u8], t: usize, u: usize) -> bool
     requires { ⌜ (e ≤ length (now text)) × (u ≤ length (now other)) ⌝ }
-    ensures { λ r. ⌜ r ≡ Pddl.same (span (now (text .entry)) s e) (span (now (other .entry)) t u) ⌝ }
+    ensures { λ r. ⌜ r ≡ Pddl.same (span (now (text .entry)) s e)
+        (span (now (other .entry)) t u) ⌝ }
 {
     let mut i = s;
     let mut j = t;

@@ -60,7 +60,8 @@ fn same_facts(text: &[u8], spans: &[usize], c: Common, at: usize) -> bool
     requires { ⌜ CommonIn (now text) (now spans) c ⌝ }
     ensures { λ r. ⌜ r ≡ (allOf (isIn (atomsFrom (now (text .entry)) (c .predicates)))
         (atomsFrom (now (text .entry)) at)
-        && sameSet (atomsFrom (now (text .entry)) at) (atomsFrom (now (text .entry)) (c .initially))) ⌝ }
+        && sameSet (atomsFrom (now (text .entry)) at)
+        (atomsFrom (now (text .entry)) (c .initially))) ⌝ }
 {
     let f = facts_from(text, spans, c.more, at);
     if f.known {

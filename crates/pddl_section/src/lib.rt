@@ -1,5 +1,5 @@
-// Actions, domains, problems and members of a text of PDDL: their form, and the offsets at which their
-// parts stand.
+// Actions, domains, problems and members of a text of PDDL: their form, and the offsets at which
+// their parts stand.
 ghost use Rattle.pddl_form.specs.declared.Place.the-variants.{At};
 ghost use Rattle.pddl_section.specs.Inner.Section.{FormulaEnds, Acts, ActionsEnd, Domains};
 ghost use Rattle.pddl_section.specs.Inner.Section.{Problems, Members, Counted};
