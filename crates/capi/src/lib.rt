@@ -321,7 +321,7 @@ pub extern "C" fn lawcheck_pddl_read(
     }
     let s = pddl::read(text, waits, words);
     match s {
-        TextRead::Refused(k) => k,
+        TextRead::Refused(refusal) => refusal,
         TextRead::Gives(n) => {
             let numbers = [n as u64];
             capi_numbers::put(out, &numbers);
