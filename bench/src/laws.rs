@@ -68,34 +68,50 @@ pub fn wide_text(records: usize) -> String {
     text::of_words(&law.words())
 }
 
-/// A law in PDDL of just so many bytes: one member with 64 facts, an action whose effects go on and
-/// on, and blanks up to the last parenthesis.
-pub fn pddl_text(bytes: usize) -> String {
-    pddl_filled(bytes, |fact| format!(" (fact-number-{})", fact % 64))
+/// Where a law in PDDL is filled up.
+#[derive(Clone, Copy, PartialEq)]
+pub enum Part {
+    Effects,
+    Initial,
+    Goal,
 }
 
-/// The same, filled with comments and blanks.
+/// A law in PDDL of just so many bytes: one member with 64 facts and one action. Facts are named on
+/// and on in one part, with blanks up to its last parenthesis.
+pub fn pddl_text(bytes: usize, part: Part) -> String {
+    pddl_filled(bytes, part, |fact| format!(" (fact-number-{})", fact % 64))
+}
+
+/// The same, with comments and blanks among the effects.
 pub fn pddl_comments(bytes: usize) -> String {
-    pddl_filled(bytes, |_| "\n      ; what a person has to say of this law; in words\n".to_string())
+    let comment = "\n      ; what a person has to say of this law; in words\n";
+    pddl_filled(bytes, Part::Effects, |_| comment.to_string())
 }
 
-fn pddl_filled(bytes: usize, piece: impl Fn(usize) -> String) -> String {
+fn pddl_filled(bytes: usize, part: Part, piece: impl Fn(usize) -> String) -> String {
     let facts: String = (0..64).map(|fact| format!(" (fact-number-{fact})")).collect();
-    let front = format!(
-        "(define (domain d)\n (:predicates{facts})\n (:action a\n  :parameters ()\n  \
-         :precondition (fact-number-0)\n  :effect (and"
-    );
-    let back = ")))\n(define (problem p)\n (:domain d)\n (:init)\n (:goal (and)))";
-    let mut text = front;
+    let with = |effects: &str, initial: &str, goal: &str| {
+        format!(
+            "(define (domain d)\n (:predicates{facts})\n (:action a\n  :parameters ()\n  \
+             :precondition (fact-number-0)\n  :effect (and{effects})))\n\
+             (define (problem p)\n (:domain d)\n (:init{initial})\n (:goal (and{goal})))"
+        )
+    };
+    let room = bytes.saturating_sub(with("", "", "").len());
+    let mut filling = String::new();
     for number in 0.. {
         let piece = piece(number);
-        if text.len() + piece.len() + back.len() > bytes {
+        if filling.len() + piece.len() > room {
             break;
         }
-        text += &piece;
+        filling += &piece;
     }
-    let blanks = bytes.saturating_sub(text.len() + back.len());
-    text + &" ".repeat(blanks) + back
+    filling += &" ".repeat(room - filling.len());
+    match part {
+        Part::Effects => with(&filling, "", ""),
+        Part::Initial => with("", &filling, ""),
+        Part::Goal => with("", "", &filling),
+    }
 }
 
 /// A task whose texts are as long as so many actions can make them.

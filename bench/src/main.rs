@@ -17,6 +17,7 @@ mod laws;
 mod sides;
 mod timing;
 
+use laws::Part;
 use reference::generate::Law;
 use sides::{Side, Slices};
 use std::time::Duration;
@@ -259,12 +260,21 @@ impl Bench {
         let waits = include_str!("../../examples/coupons-2-in-order.waits.csv");
         grows([self.pddl_read("coupons", coupons, waits)]);
         let sizes = [4 << 10, 16 << 10, 64 << 10, 256 << 10, 1 << 20];
-        grows(
-            sizes.map(|bytes| self.pddl_read("long effects", &laws::pddl_text(bytes), "0,0\r\n")),
-        );
+        let long =
+            |name, part, bytes| self.pddl_read(name, &laws::pddl_text(bytes, part), "0,0\r\n");
+        grows(sizes.map(|bytes| long("long effects", Part::Effects, bytes)));
+        grows([long("long initial facts", Part::Initial, 1 << 20)]);
+        grows([long("long goal", Part::Goal, 1 << 20)]);
         grows(sizes.map(|bytes| self.pddl_read("comments", &laws::pddl_comments(bytes), "")));
+        let short = laws::pddl_text(8 << 10, Part::Effects);
         let waits = [1 << 10, 4 << 10, 16 << 10, 64 << 10].map(|count| "0,0\r\n".repeat(count));
-        grows(waits.map(|waits| self.pddl_read("long waits", &laws::pddl_text(8 << 10), &waits)));
+        grows(waits.map(|waits| self.pddl_read("long waits", &short, &waits)));
+        grows([16, 64, 256].map(|actions| {
+            let mut writer = Slices::new(Side::Twin);
+            writer.pddl_write(&laws::full(actions), lawcheck::raw::PDDL_BYTES);
+            let [text, waits] = writer.texts();
+            self.pddl_read("all facts everywhere", text, waits)
+        }));
         grows([16, 64, 256].map(|actions| self.pddl_write(actions)));
     }
 

@@ -147,10 +147,17 @@ impl Slices {
         };
     }
 
+    /// The two texts that were written.
+    pub fn texts(&self) -> [&str; 2] {
+        [(&self.text, 0), (&self.waits, 1)].map(|(slice, place)| {
+            let written = &slice[..self.out[place] as usize];
+            std::str::from_utf8(written).expect("a text of PDDL")
+        })
+    }
+
     /// The task that the texts tell, by the second implementation; the writer's spelling is free.
     pub fn read_back(&self) -> Result<Vec<u64>, u64> {
-        let [text, waits] = [(&self.text, 0), (&self.waits, 1)]
-            .map(|(slice, place)| &slice[..self.out[place] as usize]);
+        let [text, waits] = self.texts().map(str::as_bytes);
         reference::paper::pddl::words(text, waits)
     }
 

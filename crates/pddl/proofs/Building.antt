@@ -1,26 +1,30 @@
 -- The task's rows, one after the other.
 use mathlib.Core.Path.{_≡_, refl, sym, ap, _∙_}
-use mathlib.Core.Bool.{true, _&&_}
+use mathlib.Core.Bool.{true}
 use mathlib.Core.List.{List, [], _∷_, _++_, map, flatten}
-use Prim.Native.Nat.{ℕ, zero, suc, _+_, _*_, _≤_, _<_}
+use Prim.Native.Nat.{ℕ, suc, _+_, _*_, _≤_}
 use native.Mathlib.Omega.{arith}
-use lib.ListN.{length, take, getD, length-append, length-map}
-use Rattle.semantics.specs.Base.{upTo, allOf}
+use lib.ListN.{length, take, length-append}
+use lib.Seq.{length-take-le, paste, length-paste, take-paste}
+use Rattle.semantics.specs.Base.{upTo}
 use Rattle.semantics.specs.Task.{check}
 use Rattle.semantics.specs.Text.{textWords}
 use Rattle.semantics.specs.Pddl as Pddl
-use Rattle.semantics.specs.Pddl.{membersOf, predicatesOf, initiallyOf, actionsOf, named, goalRows, ownRows, actionRows}
-use Rattle.semantics.specs.Pddl.{wordsOf}
-use Rattle.semantics.specs.Pddl.{noneTwice, wellNamed, waitsKnown, waitMask}
-use Rattle.theory.proofs.Lists.{and-elim, upTo-length, getD-upTo}
+use Rattle.semantics.specs.Pddl.{predicatesOf, actionsOf, named, goalRows, ownRows, actionRows}
+use Rattle.semantics.specs.Pddl.{waitsKnown, waitMask}
+use Rattle.theory.proofs.Lists.{getD-upTo}
 use Rattle.pddl_waits.proofs.Waits.{known-more}
+use Rattle.pddl_waits.specs.declared.Reading.{Reading}
+use Rattle.pddl_waits.specs.Inner.Waits.{WaitsIn}
 use Rattle.pddl_name.specs.Inner.Table.{namesIn}
 use Rattle.pddl_section.specs.Inner.Section.{membersFrom}
 use Rattle.pddl_named.specs.declared.Common.{Common}
-use Rattle.pddl_words.specs.Inner.Built.{row, Appended, Waits, Rows}
-use Rattle.pddl_words.proofs.Appending.{both}
-use Rattle.pddl_words.proofs.Loops.{own-length}
-use Rattle.pddl.specs.Inner.Law.{lawWords, Limited, BuiltIn}
+use Rattle.pddl_theory.specs.Inner.Appended.{row, Appended}
+use Rattle.pddl_words.specs.Inner.Built.{Waits}
+use Rattle.pddl_theory.proofs.Appending.{both}
+use Rattle.pddl_acts.specs.declared.Own.{Own}
+use Rattle.pddl_named.proofs.Passing.{own-length}
+use Rattle.pddl.specs.Inner.Law.{NamedIn, rowsOf, BuiltOf}
 
 -- ---- how many words
 
@@ -44,88 +48,101 @@ actions-length P waits i a (m ∷ ms) =
 
 -- ---- the rows of a law
 
-module _ {text waits spans : List ℕ} {c : Common} {members actions : ℕ}
-    (x : Limited text waits spans c members actions) where
-  pub waits-known : waitsKnown 256 64 (textWords waits) ≡ true
-  unfolding named
-  waits-known =
-      let ms : List Pddl.Member = membersFrom text 0 in
-      let known : waitsKnown (length (actionsOf ms)) (length (predicatesOf ms)) (textWords waits) ≡ true =
-      and-elim (noneTwice (predicatesOf ms) && allOf (wellNamed (predicatesOf ms) (initiallyOf ms)) ms) _
-      (x .named-well) .1 in
-      let few : length (actionsOf ms) ≤ 256 = omega (arith, x .actions-number, x .few-actions) in
-      let few-facts : length (predicatesOf ms) ≤ 64 = rw (x .the-predicates, ← x .facts) (x .few-facts) in
-      known-more (length (actionsOf ms)) (length (predicatesOf ms)) 256 64 (textWords waits) few few-facts known
+-- words that are copied behind others
+pasted : (t words : List ℕ) (at n : ℕ) → at + n ≤ length t → n ≤ length words
+    → Appended t at (take n words) (paste t at words n)
+pasted t words at n h l =
+    record {
+      kept = length-paste t at words n h l;
+      front = ap (λ (k : ℕ). take (at + k) (paste t at words n)) (length-take-le n words l)
+          ∙ take-paste t at words n (omega arith) l;
+    }
 
-  pub room-goals : (n : ℕ) → 1325 ≤ n → 5 + 5 * length (membersFrom text 0) ≤ n
-  room-goals n h = omega (arith, x .members-number, x .few-members)
+module _ (c : Common) (members actions : ℕ) (few-members : members ≤ 8) (few-actions : actions ≤ 256)
+    (t₀ t₁ t₂ t₃ goals acts : List ℕ) (long : 1325 ≤ length t₀) (goals-long : 5 * 8 ≤ length goals)
+    (acts-long : 5 * 256 ≤ length acts) (head : Appended t₀ 0 (row (c .facts) members actions (c .mask) 0) t₁)
+    (first : ℕ) (is-first : first ≡ 5 * members) (goals-copied : t₂ ≡ paste t₁ 5 goals first)
+    (from words : ℕ) (is-from : from ≡ 5 + first) (is-words : words ≡ 5 * actions)
+    (acts-copied : t₃ ≡ paste t₂ from acts words) where
+  abbrev front : List ℕ
+  front = row (c .facts) members actions (c .mask) 0
 
-  pub room-actions : (n from : ℕ) → 1325 ≤ n → from ≡ 5 + 5 * members → from + 5 * length
-      (actionsOf (membersFrom text 0)) ≤ n
-  room-actions n from h e = omega (arith, x .few-members, x .actions-number, x .few-actions)
+  abbrev its : List ℕ
+  its = take (5 * members) goals
 
-  pub room-masks : length (actionsOf (membersFrom text 0)) ≤ 256
-  room-masks = omega (arith, x .actions-number, x .few-actions)
+  its-length : length its ≡ 5 * members
+  its-length = length-take-le (5 * members) goals (omega arith)
 
-  module _ (t₀ t₁ t₂ t₃ masks : List ℕ) (long : 1325 ≤ length t₀)
-      (head : Appended t₀ 0 (row (c .facts) members actions (c .mask) 0) t₁)
-      (goals : Appended t₁ 5 (goalRows (namesIn text spans) 0 (membersFrom text 0)) t₂) (from : ℕ)
-      (is-from : from ≡ 5 + 5 * members)
-      (acts : Rows masks t₂ from (λ ws. actionRows (namesIn text spans) ws 0 0 (membersFrom text 0)) t₃)
-      (masked : masks ≡ map (λ a. waitMask a (textWords waits)) (upTo 256)) where
-    abbrev P : List (List ℕ)
-    P = namesIn text spans
+  goals-in : Appended t₁ 5 its t₂
+  goals-in =
+      rw (goals-copied, is-first) (pasted t₁ goals 5 (5 * members) (omega (arith, head .kept)) (omega arith))
 
-    abbrev ms : List Pddl.Member
-    ms = membersFrom text 0
+  head-goals : Appended t₀ 0 (front ++ its) t₂
+  head-goals = both head (rw five goals-in)
+    where
+      five : 5 ≡ 0 + length front
+      five = refl
 
-    abbrev first : List ℕ
-    first = row (c .facts) members actions (c .mask) 0
+  behind : from ≡ 0 + length (front ++ its)
+  behind = omega (arith, length-append front its, its-length)
 
-    waits-in : Waits (textWords waits) masks
-    waits-in =
-        let size : length masks ≡ 256 =
-        ap length masked ∙ length-map (upTo 256) (λ a. waitMask a (textWords waits)) ∙ upTo-length 256 in
-        record {
-          each = λ a h. rw masked
-              (getD-upTo (λ a. waitMask a (textWords waits)) 256 a 0 (omega (arith, size, h)));
-        }
+  acts-in : Appended t₂ from (take (5 * actions) acts) t₃
+  acts-in =
+      rw (acts-copied, is-words)
+      (pasted t₂ acts from (5 * actions) (omega (arith, head-goals .kept)) (omega arith))
 
-    head-goals : Appended t₀ 0 (first ++ goalRows P 0 ms) t₂
-    head-goals = both head (rw five goals)
-      where
-        five : 5 ≡ 0 + length first
-        five = refl
+  whole : Appended t₀ 0 (rowsOf c members actions goals acts) t₃
+  whole = both head-goals (rw (← behind) acts-in)
 
-    behind : from ≡ 0 + length (first ++ goalRows P 0 ms)
-    behind =
-        omega (arith, length-append first (goalRows P 0 ms), goals-length P 0 ms, x .members-number)
+  pub built-of : (r end : ℕ) → end ≡ from + words → r ≡ check (take end t₃)
+      → BuiltOf c members actions goals acts t₃ r
+  built-of r end is-end e =
+      let acts-length : length (take (5 * actions) acts) ≡ 5 * actions =
+      length-take-le (5 * actions) acts (omega arith) in
+      let size : 0 + length (rowsOf c members actions goals acts) ≡ 5 * (1 + members + actions) =
+      omega (arith, length-append (front ++ its) (take (5 * actions) acts), behind, is-from, is-first, acts-length) in
+      let ends : end ≡ 5 * (1 + members + actions) = omega (arith, is-from, is-words) in
+      let stands : take (5 * (1 + members + actions)) t₃ ≡ rowsOf c members actions goals acts =
+      ap (λ (k : ℕ). take k t₃) (sym size) ∙ whole .front in
+      record {
+        room = omega (arith, whole .kept, long);
+        words = stands;
+        checked = e ∙ ap (λ (k : ℕ). check (take k t₃)) ends ∙ ap check stands;
+      }
 
-    whole : Appended t₀ 0 ((first ++ goalRows P 0 ms) ++ actionRows P (textWords waits) 0 0 ms) t₃
-    whole = both head-goals (rw (← behind) (acts .each (textWords waits) waits-in))
+-- ---- rows of goals and of actions
 
-    the-words : (first ++ goalRows P 0 ms) ++ actionRows P (textWords waits) 0 0 ms ≡ lawWords text waits
-    unfolding wordsOf
-    the-words = rw (x .from-start, x .the-predicates, x .facts, x .members-number, x .actions-number, x .mask)
+waits-in : {waits masks : List ℕ} {w : Reading} → WaitsIn waits masks w → w .good ≡ true → length masks ≡ 256
+    → waitsKnown 256 64 (textWords waits) ≡ true → Waits (textWords waits) masks
+waits-in {waits} {masks} x good size known =
+    let is : masks ≡ map (λ a. waitMask a (textWords waits)) (upTo 256) =
+    x .masks good (rw size known) ∙ ap (λ (k : ℕ). map (λ a. waitMask a (textWords waits)) (upTo k)) size in
+    record {
+      each = λ a h. rw is (getD-upTo (λ a. waitMask a (textWords waits)) 256 a 0 (omega (arith, size, h)));
+    }
 
-    pub built-in : (r end : ℕ) → end ≡ from + 5 * actions → r ≡ check (take end t₃)
-        → BuiltIn text waits t₃ members actions r
-    built-in r end is-end e =
-        let words : List ℕ = (first ++ goalRows P 0 ms) ++ actionRows P (textWords waits) 0 0 ms in
-        let size : 0 + length words ≡ 5 * (1 + members + actions) =
-        omega (
-          arith,
-          length-append (first ++ goalRows P 0 ms) (actionRows P (textWords waits) 0 0 ms),
-          behind,
-          is-from,
-          actions-length P (textWords waits) 0 0 ms,
-          x .actions-number,
-        ) in
-        let ends : end ≡ 5 * (1 + members + actions) = omega (arith, is-from) in
-        let stands : take (5 * (1 + members + actions)) t₃ ≡ lawWords text waits =
-        ap (λ (k : ℕ). take k t₃) (sym size) ∙ whole .front ∙ the-words in
-        record {
-          room = omega (arith, whole .kept, long, x .few-members, x .few-actions);
-          words = stands;
-          checked = e ∙ ap (λ (k : ℕ). check (take k t₃)) ends ∙ ap check stands;
-        }
+module _ {text spans masks before goals₀ acts goals : List ℕ} {o : Own}
+    (n : NamedIn text spans masks before goals₀ acts goals o) (h : o .named ≡ true) where
+  abbrev ms : List Pddl.Member
+  ms = membersFrom text 0
+
+  -- they stand at the front of their tables
+  pub goals-rows : length ms ≤ 8 → take (5 * length ms) goals ≡ goalRows (namesIn text spans) 0 ms
+  goals-rows few =
+      let size : 0 + length (goalRows (namesIn text spans) 0 ms) ≡ 5 * length ms =
+      omega (arith, goals-length (namesIn text spans) 0 ms) in
+      ap (λ (k : ℕ). take k goals) (sym size) ∙ n .goal-rows h few .front
+
+  module _ (few : o .count ≤ 256) (few-facts : length (predicatesOf ms) ≤ 64) {waits : List ℕ} {w : Reading}
+      (x : WaitsIn waits masks w) (good : w .good ≡ true) (size : length masks ≡ 256)
+      (known : waitsKnown (length (actionsOf ms)) (length (predicatesOf ms)) (textWords waits) ≡ true) where
+    pub acts-rows : take (5 * o .count) acts ≡ actionRows (namesIn text spans) (textWords waits) 0 0 ms
+    acts-rows =
+        let its : List ℕ = actionRows (namesIn text spans) (textWords waits) 0 0 ms in
+        let length-of : 0 + length its ≡ 5 * o .count =
+        omega (arith, actions-length (namesIn text spans) (textWords waits) 0 0 ms, n .number h) in
+        let below : length (actionsOf ms) ≤ 256 = omega (arith, n .number h, few) in
+        let all : waitsKnown 256 64 (textWords waits) ≡ true =
+        known-more (length (actionsOf ms)) (length (predicatesOf ms)) 256 64 (textWords waits) below few-facts known in
+        ap (λ (k : ℕ). take k acts) (sym length-of)
+        ∙ n .rows h few .each (textWords waits) (waits-in x good size all) .front

@@ -1,16 +1,15 @@
 -- The reader's ways out.
 use mathlib.Core.Path.{_≡_, refl, sym, ap, ap₂, _∙_}
 use mathlib.Core.Bool.{true, false}
-use mathlib.Core.List.{List, [], _∷_, _++_}
+use mathlib.Core.List.{List, _++_}
 use Prim.Native.Nat.{ℕ, zero, suc, _+_, _-_, _*_, _≤_, _<_}
 use native.Mathlib.Omega.{arith}
-use lib.ListN.{length, take, drop, replicate, length-append}
+use lib.ListN.{length, take, drop, replicate}
 use lib.Seq.{length-take-le, take-at, paste, length-paste}
 use lib.Dec.{ltb}
 use borrow.Author.Tests.{lt-ltb, le-ltb}
 use Rattle.semantics.specs.Base.{padded, zeroed}
-use Rattle.semantics.specs.Text.{textWords}
-use Rattle.semantics.specs.Pddl.{readPddl, membersOf, actionsOf}
+use Rattle.semantics.specs.Pddl.{readPddl}
 use Rattle.text.specs.declared.TextRead.the-variants.{Refused, Gives}
 use Rattle.text.specs.Post.{reading}
 use Rattle.text.proofs.Scanning.{cleared}

@@ -1,16 +1,19 @@
 // The reader of laws in PDDL: a text with a domain and a problem for each member, and a text of
 // waits, in; the words of the task out.
 ghost use mathlib.Core.Path.{_≡_};
-ghost use Prim.Native.Nat.{_≤_};
+ghost use Prim.Native.Nat.{_*_, _≤_};
 ghost use lib.ListN.{length};
-ghost use Rattle.semantics.specs.Text.{textWords};
-ghost use Rattle.semantics.specs.Pddl.{named, readPddl};
+ghost use Rattle.semantics.specs.Pddl.{noneTwice, readPddl};
 ghost use Rattle.text.specs.Post.{reading};
-ghost use Rattle.pddl_section.specs.Inner.Section.{membersFrom};
-ghost use Rattle.pddl.specs.Inner.Law.{Begun, Naming, Limited, LawIn, BuiltIn};
+ghost use Rattle.pddl_form.specs.Inner.Place.{atomsFrom};
+ghost use Rattle.pddl_named.specs.Inner.Common.{CommonIn};
+ghost use Rattle.pddl.specs.Inner.Law.{Begun, Naming, NamedIn, BuiltOf, LawIn, LawFor};
 
 // Words in a row.
 const ROW: usize = 5;
+
+// Numbers in an entry of the table of members.
+const ENTRY: usize = 10;
 
 const MOST_FACTS: usize = 64;
 
@@ -25,45 +28,66 @@ pub struct Law {
     pub records: usize,
 }
 
-// Are all names as they should be?
-fn names_hold(
-    text: &[u8],
-    waits: &[u8],
-    spans: &[usize],
-    c: pddl_named::Common,
-    known: bool,
-    actions: usize,
-) -> bool
-    requires { ⌜ Naming (now text) (now waits) (now spans) c known actions ⌝ }
-    ensures { λ r. ⌜ r ≡ named (membersFrom (now (text .entry)) 0)
-        (textWords (now (waits .entry))) ⌝ }
+// Is no predicate there twice? By the table where it has them all.
+fn predicates_once(text: &[u8], spans: &[usize], c: pddl_named::Common) -> bool
+    requires { ⌜ CommonIn (now text) (now spans) c ⌝ }
+    ensures { λ r. ⌜ r ≡ noneTwice (atomsFrom (now (text .entry)) (c .predicates)) ⌝ }
 {
-    if known {
-        pddl_list::distinct(text, c.predicates)
-            & pddl_named::all_named(text, spans, c)
-            & pddl_waits::known(waits, actions, c.facts)
+    if c.facts <= MOST_FACTS {
+        pddl_list::distinct_in(text, spans)
     } else {
-        false
+        pddl_list::distinct(text, c.predicates)
     }
 }
 
-// The task's rows go to the front of the table; the answer is the task check's.
-fn build(
+// How many actions there are, and whether all names of the text are as they should be. The actions'
+// rows go into the table `acts`, the goal rows into `goals`.
+fn names_hold(
     text: &[u8],
-    waits: &[u8],
     spans: &[usize],
+    places: &[usize],
+    c: pddl_named::Common,
+    known: bool,
+    masks: &[u64],
+    acts: &mut [u64],
+    goals: &mut [u64],
+) -> pddl_acts::Own
+    requires { ⌜ Naming (now text) (now spans) (now places) c known ⌝ }
+    requires { ⌜ (5 * 256 ≤ length (now acts)) × (256 ≤ length (now masks)) ⌝ }
+    requires { ⌜ 5 * 8 ≤ length (now goals) ⌝ }
+    ensures { λ r. ⌜ NamedIn (now (text .entry)) (now (spans .entry)) (now (masks .entry))
+        (now (acts .entry)) (now (goals .entry)) (now (acts .exit)) (now (goals .exit)) r ⌝ }
+{
+    if known {
+        let all = pddl_named::all_named(text, spans, places, c, masks, acts, goals);
+        pddl_acts::Own {
+            count: all.count,
+            named: predicates_once(text, spans, c) & all.named,
+        }
+    } else {
+        pddl_acts::Own {
+            count: 0,
+            named: false,
+        }
+    }
+}
+
+// The task's rows go to the front of the table, those of goals and actions from tables of their
+// own; the answer is the task check's.
+fn build(
     c: pddl_named::Common,
     members: usize,
     actions: usize,
+    goals: &[u64],
+    acts: &[u64],
     table: &mut [u64],
 ) -> u64
-    requires { ⌜ Limited (now text) (now waits) (now spans) c members actions ⌝ }
-    requires { ⌜ 1325 ≤ length (now table) ⌝ }
-    ensures { λ r. ⌜ BuiltIn (now (text .entry)) (now (waits .entry)) (now (table .exit)) members
-        actions r ⌝ }
+    requires { ⌜ (members ≤ 8) × (actions ≤ 256) × (c .facts ≤ 64) ⌝ }
+    requires { ⌜ (5 * 8 ≤ length (now goals)) × (5 * 256 ≤ length (now acts))
+        × (1325 ≤ length (now table)) ⌝ }
+    ensures { λ r. ⌜ BuiltOf c members actions (now (goals .entry)) (now (acts .entry))
+        (now (table .exit)) r ⌝ }
 {
-    let mut masks = [0; 256];
-    pddl_waits::masks(waits, &mut masks);
     pddl_words::put_row(
         table,
         0,
@@ -73,30 +97,37 @@ fn build(
         c.mask,
         0,
     );
-    pddl_words::put_goals(text, spans, c.more, table, ROW);
-    let from = ROW + ROW * members;
-    pddl_words::put_actions(text, spans, c.more, &masks, table, from);
-    let end = from + ROW * actions;
+    let first = ROW * members;
+    rows::store(table, first, ROW, goals);
+    let from = ROW + first;
+    let words = ROW * actions;
+    rows::store(table, words, from, acts);
+    let end = from + words;
     task::check(&table[..end])
 }
 
-// The law of a text that has the form, with the table of the first predicates.
+// The law of a text that has the form and of waits that were read, with the tables of the first
+// predicates and of the first members; `m` is the first member.
 fn named_law(
     text: &[u8],
-    waits: &[u8],
+    w: pddl_waits::Reading,
+    masks: &[u64],
     spans: &[usize],
     more: usize,
-    predicates: usize,
-    initially: usize,
+    places: &[usize],
+    m: pddl_section::Member,
     members: usize,
     table: &mut [u64],
 ) -> Law
-    requires { ⌜ Begun (now text) (now waits) (now spans) more predicates initially members ⌝ }
-    requires { ⌜ 1325 ≤ length (now table) ⌝ }
-    ensures { λ r. ⌜ LawIn (now (text .entry)) (now (waits .entry)) (now (table .exit)) r ⌝ }
+    requires { ⌜ Begun (now text) (now spans) more (now places) m members ⌝ }
+    requires { ⌜ (length (now masks) ≡ 256) × (1325 ≤ length (now table)) ⌝ }
+    ensures { λ r. ⌜ LawFor (now (text .entry)) w (now (masks .entry)) (now (table .exit)) r ⌝ }
 {
+    let domain = m.domain;
+    let problem = m.problem;
+    let predicates = domain.predicates;
+    let initially = problem.initially;
     let facts = pddl_list::count(text, predicates);
-    let actions = pddl_named::actions(text);
     let start = pddl_named::facts_from(text, spans, more, initially);
     let c = pddl_named::Common {
         predicates,
@@ -105,9 +136,22 @@ fn named_law(
         more,
         mask: start.mask,
     };
-    if names_hold(text, waits, spans, c, start.known, actions) {
+    let mut acts = [0; 1280];
+    let mut goals = [0; 40];
+    let own = names_hold(
+        text,
+        spans,
+        places,
+        c,
+        start.known,
+        masks,
+        &mut acts,
+        &mut goals,
+    );
+    let actions = own.count;
+    if own.named & pddl_waits::within(w, actions, facts) {
         if (facts <= MOST_FACTS) & (members <= MOST_MEMBERS) & (actions <= MOST_ACTIONS) {
-            let refusal = build(text, waits, spans, c, members, actions, table);
+            let refusal = build(c, members, actions, &goals, &acts, table);
             Law {
                 refusal,
                 records: 1 + members + actions,
@@ -131,29 +175,32 @@ fn law_in(text: &[u8], waits: &[u8], table: &mut [u64]) -> Law
     requires { ⌜ 1325 ≤ length (now table) ⌝ }
     ensures { λ r. ⌜ LawIn (now (text .entry)) (now (waits .entry)) (now (table .exit)) r ⌝ }
 {
-    if pddl_waits::well_formed(waits) {
-        let members = pddl_section::count(text);
+    let mut masks = [0; 256];
+    let w = pddl_waits::read(waits, &mut masks);
+    if w.good {
+        let mut places = [0; 80];
+        let k = pddl_members::count(text, &mut places);
+        let members = k.members;
         if members == 0 {
             Law {
                 refusal: 16,
                 records: 0,
             }
         } else {
-            let m = pddl_reader::member_at(text, 0);
+            let kept = ENTRY * k.kept;
+            let m = pddl_members::member_in(text, &places[..kept], 0);
             let domain = m.domain;
-            let problem = m.problem;
-            let predicates = domain.predicates;
-            let initially = problem.initially;
             let mut spans = [0; 128];
-            let t = pddl_list::fill(text, predicates, &mut spans);
+            let t = pddl_list::fill(text, domain.predicates, &mut spans);
             let end = 2 * t.count;
             named_law(
                 text,
-                waits,
+                w,
+                &masks,
                 &spans[..end],
                 t.more,
-                predicates,
-                initially,
+                &places[..kept],
+                m,
                 members,
                 table,
             )

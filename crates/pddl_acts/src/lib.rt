@@ -1,47 +1,31 @@
 // The actions of a domain, from an offset on: how many, whether a name stands twice, whether all
-// facts that they name are known.
+// facts that they name are known, and their rows. Within the limits each is read once.
 ghost use mathlib.Core.Path.{_≡_};
-ghost use mathlib.Core.List.{_++_};
-ghost use Prim.Native.Nat.{_≤_, _*_};
+ghost use Prim.Native.Nat.{_+_, _*_, _≤_};
 ghost use lib.ListN.{length};
-ghost use Rattle.semantics.specs.Base.{allOf};
-ghost use Rattle.semantics.specs.Pddl.{isIn, noneTwice, knownAction};
+ghost use Rattle.semantics.specs.Pddl.{isIn, noneTwice};
 ghost use Rattle.pddl_theory.specs.Inner.Place.{span};
-ghost use Rattle.pddl_name.specs.Inner.Table.{namesIn, Spans};
-ghost use Rattle.pddl_form.specs.Inner.Place.{atomsFrom};
 ghost use Rattle.pddl_formula.specs.Inner.Formula.{Ready};
 ghost use Rattle.pddl_section.specs.Inner.Section.{actionsFrom};
-ghost use Rattle.pddl_acts.specs.Inner.Names.{calledFrom, Tabled};
+ghost use Rattle.pddl_acts.specs.Inner.Names.{calledFrom, Noted, NamesIn};
+ghost use Rattle.pddl_acts.specs.Inner.Own.{Placed, Tallied, OwnIn};
 
-// How many names stand in the table, and the offset from which the other actions stand.
-pub struct Table {
+// How many actions there are, and whether all facts that they name are known.
+pub struct Tally {
     pub count: usize,
-    pub more: usize,
+    pub known: bool,
+}
+
+// How many actions there are, and whether all their names are as they should be.
+pub struct Own {
+    pub count: usize,
+    pub named: bool,
 }
 
 const MOST_ACTIONS: usize = 256;
 
-// The number of actions from an offset on.
-pub fn count(text: &[u8], at: usize) -> usize
-    ensures { λ r. ⌜ (r ≡ length (actionsFrom (now (text .entry)) at))
-        × (r ≤ length (now (text .entry))) ⌝ }
-{
-    let mut n = 0;
-    let mut i = at;
-    loop {
-        let a = pddl_section::action_at(text, pddl_form::Place::At(i));
-        let behind = a.place;
-        match behind {
-            pddl_form::Place::At(next) => {
-                n += 1;
-                i = next;
-            }
-            pddl_form::Place::Outside => {
-                return n;
-            }
-        }
-    }
-}
+// Words in a row.
+const ROW: usize = 5;
 
 // Is the word s..e the name of one of the actions from an offset on?
 fn called(text: &[u8], at: usize, s: usize, e: usize) -> bool
@@ -50,7 +34,7 @@ fn called(text: &[u8], at: usize, s: usize, e: usize) -> bool
 {
     let mut i = at;
     loop {
-        let a = pddl_section::action_at(text, pddl_form::Place::At(i));
+        let a = pddl_section::plain_action_at(text, i);
         let first = a.first;
         let end = a.end;
         let behind = a.place;
@@ -75,7 +59,7 @@ fn distinct_from(text: &[u8], at: usize) -> bool
 {
     let mut i = at;
     loop {
-        let a = pddl_section::action_at(text, pddl_form::Place::At(i));
+        let a = pddl_section::plain_action_at(text, i);
         let first = a.first;
         let end = a.end;
         let behind = a.place;
@@ -94,95 +78,118 @@ fn distinct_from(text: &[u8], at: usize) -> bool
     }
 }
 
-// The names of the first actions from an offset on, at most 256, go into the table.
-fn fill(text: &[u8], at: usize, spans: &mut [usize]) -> Table
-    requires { ⌜ 2 * 256 ≤ length (now spans) ⌝ }
-    ensures { λ r. ⌜ Tabled (now (text .entry)) at (now (spans .exit)) r ⌝ }
+// The span of name n goes into the table, if there is room for it.
+fn note(names: &mut [usize], n: usize, first: usize, end: usize)
+    requires { ⌜ 2 * 256 ≤ length (now names) ⌝ }
+    ensures { λ _. ⌜ Noted (now (names .entry)) n first end (now (names .exit)) ⌝ }
 {
-    let mut n = 0;
-    let mut i = at;
-    while n < MOST_ACTIONS {
-        let a = pddl_section::action_at(text, pddl_form::Place::At(i));
-        let behind = a.place;
-        match behind {
-            pddl_form::Place::At(next) => {
-                spans[2 * n] = a.first;
-                spans[2 * n + 1] = a.end;
-                n += 1;
-                i = next;
-            }
-            pddl_form::Place::Outside => {
-                return Table { count: n, more: i };
-            }
-        }
-    }
-    Table { count: n, more: i }
-}
-
-// Is none of the names of a table there twice?
-fn distinct_in(text: &[u8], spans: &[usize]) -> bool
-    requires { ⌜ Spans (length (now text)) (now spans) ⌝ }
-    ensures { λ r. ⌜ r ≡ noneTwice (namesIn (now (text .entry)) (now (spans .entry))) ⌝ }
-{
-    let mut i = 0;
-    while i + 1 < spans.len() {
-        let first = spans[i];
-        let end = spans[i + 1];
-        let f = pddl_name::lookup(text, &spans[i + 2..], first, end);
-        match f {
-            pddl_name::Found::At(k) => {
-                return false;
-            }
-            pddl_name::Found::Absent => {
-                i += 2;
-            }
-        }
-    }
-    true
-}
-
-// Is none of the actions from an offset on named twice? By the table where it has all their names.
-pub fn distinct(text: &[u8], at: usize) -> bool
-    ensures { λ r. ⌜ r ≡ noneTwice (calledFrom (now (text .entry)) at) ⌝ }
-{
-    let mut spans = [0; 512];
-    let t = fill(text, at, &mut spans);
-    let next = pddl_section::action_at(text, pddl_form::Place::At(t.more));
-    let behind = next.place;
-    match behind {
-        pddl_form::Place::At(n) => distinct_from(text, at),
-        pddl_form::Place::Outside => {
-            let end = 2 * t.count;
-            distinct_in(text, &spans[..end])
-        }
+    if n < MOST_ACTIONS {
+        names[2 * n] = first;
+        names[2 * n + 1] = end;
     }
 }
 
-// Are all facts that the actions from an offset on name known?
-pub fn known(text: &[u8], spans: &[usize], more: usize, at: usize) -> bool
+// An action's row goes to its place in the table, if there is room for it.
+fn place(table: &mut [u64], waits: &[u64], number: usize, owner: u64, a: pddl_section::Act)
+    requires { ⌜ (5 * 256 ≤ length (now table)) × (256 ≤ length (now waits)) ⌝ }
+    ensures { λ _. ⌜ Placed (now (waits .entry)) (now (table .entry)) number owner a
+        (now (table .exit)) ⌝ }
+{
+    if number < MOST_ACTIONS {
+        let at = ROW * number;
+        let wait = waits[number];
+        pddl_words::put_row(table, at, owner, a.needs, wait, a.adds, a.dels);
+    }
+}
+
+// The actions from the offset `start` on, in one pass: their names and their rows go into the
+// tables. `owner` is the member's number, `first` that of its first action.
+fn gather(
+    text: &[u8],
+    spans: &[usize],
+    more: usize,
+    waits: &[u64],
+    table: &mut [u64],
+    names: &mut [usize],
+    start: usize,
+    owner: u64,
+    first: usize,
+) -> Tally
     requires { ⌜ Ready (now text) (now spans) ⌝ }
-    ensures { λ r. ⌜ r ≡ allOf (knownAction (namesIn (now (text .entry)) (now (spans .entry))
-        ++ atomsFrom (now (text .entry)) more)) (actionsFrom (now (text .entry)) at) ⌝ }
+    requires { ⌜ (5 * 256 ≤ length (now table)) × (256 ≤ length (now waits)) ⌝ }
+    requires { ⌜ 2 * 256 ≤ length (now names) ⌝ }
+    requires { ⌜ first + length (actionsFrom (now text) start) ≤ length (now text) ⌝ }
+    ensures { λ r. ⌜ Tallied (now (text .entry)) (now (spans .entry)) more
+        (now (waits .entry)) (now (table .entry)) start owner first (now (table .exit))
+        (now (names .exit)) r ⌝ }
 {
-    let mut i = at;
+    let mut count = 0;
+    let mut known = true;
+    let mut i = start;
     loop {
-        let a = pddl_section::action_at(text, pddl_form::Place::At(i));
-        let precondition = a.precondition;
-        let effect = a.effect;
+        let a = pddl_section::action_at(text, spans, more, pddl_form::Place::At(i));
         let behind = a.place;
         match behind {
             pddl_form::Place::At(n) => {
-                let p = pddl_formula::formula_at(text, spans, more, precondition, false);
-                let e = pddl_formula::formula_at(text, spans, more, effect, true);
-                if p.known & e.known {
-                    i = n;
-                } else {
-                    return false;
-                }
+                note(names, count, a.first, a.end);
+                place(table, waits, first + count, owner, a);
+                known = known & a.known;
+                count += 1;
+                i = n;
             }
             pddl_form::Place::Outside => {
-                return true;
+                return Tally { count, known };
             }
         }
+    }
+}
+
+// Is none of the actions from an offset on named twice? By the table where it has all their names.
+fn distinct(text: &[u8], names: &[usize], count: usize, at: usize) -> bool
+    requires { ⌜ 2 * 256 ≤ length (now names) ⌝ }
+    requires { ⌜ NamesIn (now text) at (now names) count ⌝ }
+    ensures { λ r. ⌜ r ≡ noneTwice (calledFrom (now (text .entry)) at) ⌝ }
+{
+    if count <= MOST_ACTIONS {
+        let end = 2 * count;
+        pddl_list::distinct_in(text, &names[..end])
+    } else {
+        distinct_from(text, at)
+    }
+}
+
+// The same as `gather`, and whether a name stands twice.
+pub fn own_actions(
+    text: &[u8],
+    spans: &[usize],
+    more: usize,
+    waits: &[u64],
+    table: &mut [u64],
+    start: usize,
+    owner: u64,
+    first: usize,
+) -> Own
+    requires { ⌜ Ready (now text) (now spans) ⌝ }
+    requires { ⌜ (5 * 256 ≤ length (now table)) × (256 ≤ length (now waits)) ⌝ }
+    requires { ⌜ first + length (actionsFrom (now text) start) ≤ length (now text) ⌝ }
+    ensures { λ r. ⌜ OwnIn (now (text .entry)) (now (spans .entry)) more
+        (now (waits .entry)) (now (table .entry)) start owner first (now (table .exit)) r ⌝ }
+{
+    let mut names = [0; 512];
+    let t = gather(
+        text,
+        spans,
+        more,
+        waits,
+        table,
+        &mut names,
+        start,
+        owner,
+        first,
+    );
+    let distinct = distinct(text, &names, t.count, start);
+    Own {
+        count: t.count,
+        named: distinct & t.known,
     }
 }

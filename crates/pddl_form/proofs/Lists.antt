@@ -1,5 +1,5 @@
 -- The loop over a list of atoms.
-use mathlib.Core.Path.{_≡_, refl, sym, ap, _∙_}
+use mathlib.Core.Path.{_≡_, refl, sym, _∙_}
 use mathlib.Core.Bool.{Bool, true, false, _||_}
 use mathlib.Core.List.{List, [], _∷_}
 use Prim.Native.Nat.{ℕ, _≤_, _<_}
@@ -55,9 +55,6 @@ module _ {text : List ℕ} {at i : ℕ} (g : Passing text at i) (a : Word) (x : 
 pub atoms-end-at : {text : List ℕ} (p : Place) (n : ℕ) → p ≡ At n → (r : Place) → AtomsEnd text (At n) r
     → AtomsEnd text p r
 atoms-end-at p n q r x = rw q x
-
-pub atoms-end-out : {text : List ℕ} (p : Place) → p ≡ Outside → AtomsEnd text p Outside
-atoms-end-out p q = record { same = rw q; onward = tt }
 
 -- ---- a word among the atoms
 

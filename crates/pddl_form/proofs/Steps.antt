@@ -1,14 +1,13 @@
 -- One step of a reader that goes from place to place: what it reads, then the rest from the place behind it.
-use mathlib.Core.Path.{_≡_, refl, sym, ap, _∙_}
-use mathlib.Core.List.{List, []}
-use Prim.Native.Nat.{ℕ, _≤_, _<_}
+use mathlib.Core.Path.{_≡_, _∙_}
+use mathlib.Core.List.{List}
+use Prim.Native.Nat.{ℕ}
 use native.Mathlib.Omega.{arith}
-use lib.ListN.{length}
 use Rattle.semantics.specs.Pddl as Pddl
-use Rattle.semantics.specs.Pddl.{Token, tokens, Parsed, outside, parsed, _then_}
+use Rattle.semantics.specs.Pddl.{Token, tokens, Parsed, parsed, _then_}
 use Rattle.pddl_theory.specs.Inner.Place.{rest, span, leaves, items}
 use Rattle.pddl_theory.proofs.Chain.{via, then-then, list-parts}
-use Rattle.pddl_form.specs.Inner.Place.{offsetOf, left, wordOf, Behind, NotBefore, Expects, Names}
+use Rattle.pddl_form.specs.Inner.Place.{offsetOf, left, Behind, NotBefore, Expects, Names}
 use Rattle.pddl_form.specs.declared.Place.{Place}
 use Rattle.pddl_form.specs.declared.Place.the-variants.{At, Outside}
 use Rattle.pddl_form.specs.declared.Word.{Word}

@@ -1,5 +1,5 @@
 -- What a token says of the tokens from its offset on.
-use mathlib.Core.Path.{_≡_, refl, sym, ap, _∙_}
+use mathlib.Core.Path.{_≡_, refl, sym, _∙_}
 use mathlib.Core.Bool.{Bool, true, false, cond, true≢false}
 use mathlib.Core.List.{List, [], _∷_}
 use Prim.Native.Nat.{ℕ, _-_, _≤_, _<_}
@@ -13,7 +13,7 @@ use Rattle.pddl_token.specs.Inner.Next.{Next}
 use Rattle.pddl_token.specs.declared.Token.{Token}
 use Rattle.pddl_token.specs.declared.Token.the-variants as T
 use Rattle.pddl_form.specs.Inner.Place.{openedOf, closedOf, noWord, wordedOf, behindOf, isEnd, agreed, offsetOf}
-use Rattle.pddl_form.specs.Inner.Place.{left, wordOf, Behind, NotBefore, Opens, Closes, Expects, Names, Atoms}
+use Rattle.pddl_form.specs.Inner.Place.{left, Behind, Opens, Closes, Expects, Names, Atoms}
 use Rattle.pddl_form.specs.declared.Place.{Place}
 use Rattle.pddl_form.specs.declared.Place.the-variants.{At, Outside}
 use Rattle.pddl_form.specs.declared.Word.{Word}
@@ -98,9 +98,6 @@ module _ {text : List ℕ} (p : Place) (q : p ≡ Outside) where
 
   pub names-out : Names text p noWord
   names-out = record { same = rw q; onward = tt; within = omega arith }
-
-  pub expects-out : (pattern : List ℕ) → Expects text p pattern Outside
-  expects-out pattern = record { same = rw q; onward = tt }
 
 -- ---- an atom
 

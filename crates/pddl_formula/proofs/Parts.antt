@@ -1,12 +1,12 @@
--- A formula's parts: its opening, a fact, an atom, a negation, the end of a list.
-use mathlib.Core.Path.{_≡_, refl, sym, ap, _∙_}
+-- A formula's parts: a fact, an atom, a negation.
+use mathlib.Core.Path.{_≡_, sym, _∙_}
 use mathlib.Core.Bool.{Bool, true, false}
 use mathlib.Core.List.{List, [], _∷_}
 use Prim.Native.Nat.{ℕ, _^_, _<_}
 use native.Mathlib.Omega.{arith}
 use lib.ListN.{length}
-use Rattle.semantics.specs.Pddl.{Token, opening, closing, word, tokensFrom, tokens, inWord, isBlank, small, and′, not′}
-use Rattle.semantics.specs.Pddl.{Parsed, outside, parsed, _then_, Literal, expect, atom, literal, isIn}
+use Rattle.semantics.specs.Pddl.{Token, opening, closing, word, sameToken, isName}
+use Rattle.semantics.specs.Pddl.{Parsed, outside, parsed, _then_, Literal, expect, name, atom, literal, isIn}
 use Rattle.pddl_theory.specs.Inner.Place.{rest, span}
 use Rattle.pddl_theory.proofs.Chain.{via, then-then}
 use Rattle.pddl_theory.proofs.Sets.{isIn-append}
@@ -16,46 +16,12 @@ use Rattle.pddl_name.specs.declared.Found.the-variants as F
 use Rattle.pddl_form.specs.declared.Place.{Place}
 use Rattle.pddl_form.specs.declared.Place.the-variants.{At, Outside}
 use Rattle.pddl_form.specs.declared.Word.{Word}
-use Rattle.pddl_form.specs.Inner.Place.{left, atomsFrom, Behind, Expects, Closes, Atoms}
-use Rattle.pddl_form.proofs.Lists.{atom-read, atom-none, atom-onward}
+use Rattle.pddl_form.specs.Inner.Place.{left, atomsFrom, Behind, Closes, Atoms}
 use Rattle.pddl_form.proofs.Tokens.{behind-behind}
 use Rattle.pddl_formula.specs.declared.Fact.{Fact}
 use Rattle.pddl_formula.specs.declared.Literals.{Literals}
-use Rattle.pddl_formula.specs.declared.Opening.the-variants as H
-use Rattle.pddl_formula.specs.Inner.Formula.{nothing, Ready, FactOf, Headed, EndAt, negated}
-use Rattle.pddl_formula.specs.Inner.Formula.{LiteralAt, NegationAt}
+use Rattle.pddl_formula.specs.Inner.Formula.{nothing, Ready, FactOf, negated, LiteralAt, NegationAt}
 use Rattle.pddl_formula.proofs.Meanings.{tells-added, tells-deleted, means-read, means-none}
-
--- ---- the opening
-
--- the bytes `(and` and `(not`
-and-tokens : tokens (40 ∷ 97 ∷ 110 ∷ 100 ∷ []) ≡ opening ∷ word and′ ∷ []
-unfolding tokensFrom inWord isBlank small
-and-tokens = refl
-
-not-tokens : tokens (40 ∷ 110 ∷ 111 ∷ 116 ∷ []) ≡ opening ∷ word not′ ∷ []
-unfolding tokensFrom inWord isBlank small
-not-tokens = refl
-
-module _ {text : List ℕ} {at : ℕ} (a : Place) (x : Expects text (At at) (40 ∷ 97 ∷ 110 ∷ 100 ∷ []) a) where
-  and-left : expect (opening ∷ word and′ ∷ []) (rest text at) ≡ left text a
-  and-left = ap (λ (es : List Token). expect es (rest text at)) (sym and-tokens) ∙ sym (x .same)
-
-  pub head-and : (n : ℕ) → a ≡ At n → Headed text at (H.And n)
-  head-and n e = record { head = (and-left ∙ ap (left text) e, rw e at (x .onward)) }
-
-  module _ (o : a ≡ Outside) (b : Place) (y : Expects text (At at) (40 ∷ 110 ∷ 111 ∷ 116 ∷ []) b) where
-    and-out : expect (opening ∷ word and′ ∷ []) (rest text at) ≡ outside
-    and-out = and-left ∙ ap (left text) o
-
-    not-left : expect (opening ∷ word not′ ∷ []) (rest text at) ≡ left text b
-    not-left = ap (λ (es : List Token). expect es (rest text at)) (sym not-tokens) ∙ sym (y .same)
-
-    pub head-not : (n : ℕ) → b ≡ At n → Headed text at (H.Not n)
-    head-not n e = record { head = (and-out, not-left ∙ ap (left text) e, rw e at (y .onward)) }
-
-    pub head-other : b ≡ Outside → Headed text at H.Other
-    head-other e = record { head = (and-out, not-left ∙ ap (left text) e) }
 
 -- ---- a fact
 
@@ -86,38 +52,60 @@ module _ (text spans : List ℕ) (s e : ℕ) (f : Found) (l : Looked (namesIn te
 
 -- ---- an atom
 
+module _ (text spans : List ℕ) (more s e : ℕ) (b : Bool) (is : b ≡ isName (span text s e)) where
+  abbrev whole : Parsed (List Literal)
+  whole = literal (opening ∷ word (span text s e) ∷ rest text e)
+
+  abbrev fact : Literal
+  fact = record { fact = span text s e; negated = false }
+
+  pub no-name : b ≡ false → (r : Literals) → r ≡ nothing → LiteralAt text spans more s e r
+  unfolding literal atom expect sameToken name
+  no-name h r q =
+      let o : whole ≡ outside = rw (sym is ∙ h) in
+      record { means = means-none whole o r q }
+
+  module _ (h : b ≡ true) (z : Place) (c : Closes text (At e) z) where
+    abbrev alone : List ℕ → List Token → Parsed (List Literal)
+    alone w ts = parsed (record { fact = w; negated = false } ∷ []) ts
+
+    closed-atom : whole ≡ ((expect (closing ∷ []) (rest text e) then λ _ ts. parsed (span text s e) ts) then alone)
+    unfolding literal atom expect sameToken name
+    closed-atom = rw (sym is ∙ h)
+
+    atom-left : whole ≡ (left text z then λ _ ts. parsed (fact ∷ []) ts)
+    atom-left =
+        closed-atom
+        ∙ then-then (expect (closing ∷ []) (rest text e)) (λ _ ts. parsed (span text s e) ts) alone
+        ∙ via (left text (At e)) (λ _ ts. expect (closing ∷ []) ts) (λ _ ts. parsed (fact ∷ []) ts) (c .same)
+
+    pub atom-in : (n : ℕ) → z ≡ At n → (f : Fact) → FactOf text spans more s e f
+        → LiteralAt text spans more s e (record { adds = f .bit; dels = 0; known = f .known; place = At n })
+    atom-in n q f y =
+        record {
+          means = means-read whole (fact ∷ []) n (f .bit) 0 (f .known) (atom-left ∙ rw q) (rw q at (c .onward))
+              (tells-added text spans more (span text s e) (f .bit) (f .known) (y .bit) (y .names));
+        }
+
+    pub atom-out : z ≡ Outside → (r : Literals) → r ≡ nothing → LiteralAt text spans more s e r
+    atom-out q r p = record { means = means-none whole (atom-left ∙ rw q) r p }
+
+-- ---- a negation
+
 module _ (text spans : List ℕ) (more at : ℕ) (a : Word) (x : Atoms text (At at) a) where
-  abbrev lit : Bool → Literal
-  lit b = record { fact = span text (a .first) (a .end); negated = b }
-
-  pub atom-in : (n : ℕ) → a .place ≡ At n → (f : Fact) → FactOf text spans more (a .first) (a .end) f
-      → LiteralAt text spans more at (record { adds = f .bit; dels = 0; known = f .known; place = At n })
-  unfolding literal
-  atom-in n e f y =
-      let q : literal (rest text at) ≡ parsed (lit false ∷ []) (rest text n) = rw (atom-read x n e) in
-      record {
-        means = means-read (literal (rest text at)) (lit false ∷ []) n (f .bit) 0 (f .known) q (atom-onward x n e)
-            (tells-added text spans more (span text (a .first) (a .end)) (f .bit) (f .known) (y .bit) (y .names));
-      }
-
-  pub atom-out : a .place ≡ Outside → (r : Literals) → r ≡ nothing → LiteralAt text spans more at r
-  unfolding literal
-  atom-out e r q =
-      let o : literal (rest text at) ≡ outside = rw (atom-none x e) in
-      record { means = means-none (literal (rest text at)) o r q }
-
-  -- ---- a negation
+  abbrev lit : Literal
+  lit = record { fact = span text (a .first) (a .end); negated = true }
 
   module _ (z : Place) (c : Closes text (a .place) z) where
     abbrev closed-negation : List ℕ → List Token → Parsed (List Literal)
     closed-negation w ts =
         expect (closing ∷ []) ts then λ _ ts. parsed (record { fact = w; negated = true } ∷ []) ts
 
-    negation-left : negated (rest text at) ≡ (left text z then λ _ ts. parsed (lit true ∷ []) ts)
+    negation-left : negated (rest text at) ≡ (left text z then λ _ ts. parsed (lit ∷ []) ts)
     negation-left =
         via (left text (At at)) (λ _ ts. atom ts) closed-negation (x .same)
         ∙ then-then (left text (a .place)) (λ _ ts. parsed (span text (a .first) (a .end)) ts) closed-negation
-        ∙ via (left text (a .place)) (λ _ ts. expect (closing ∷ []) ts) (λ _ ts. parsed (lit true ∷ []) ts) (c .same)
+        ∙ via (left text (a .place)) (λ _ ts. expect (closing ∷ []) ts) (λ _ ts. parsed (lit ∷ []) ts) (c .same)
 
     negation-onward : Behind (length text) (At at) z
     negation-onward = behind-behind (length text) (At at) (a .place) z (x .onward) (c .onward)
@@ -125,9 +113,9 @@ module _ (text spans : List ℕ) (more at : ℕ) (a : Word) (x : Atoms text (At 
     pub negation-in : (n : ℕ) → z ≡ At n → (f : Fact) → FactOf text spans more (a .first) (a .end) f
         → NegationAt text spans more at (record { adds = 0; dels = f .bit; known = f .known; place = At n })
     negation-in n e f y =
-        let q : negated (rest text at) ≡ parsed (lit true ∷ []) (rest text n) = negation-left ∙ rw e in
+        let q : negated (rest text at) ≡ parsed (lit ∷ []) (rest text n) = negation-left ∙ rw e in
         record {
-          means = means-read (negated (rest text at)) (lit true ∷ []) n 0 (f .bit) (f .known) q
+          means = means-read (negated (rest text at)) (lit ∷ []) n 0 (f .bit) (f .known) q
               (rw e at negation-onward)
               (tells-deleted text spans more (span text (a .first) (a .end)) (f .bit) (f .known) (y .bit) (y .names));
         }
@@ -136,13 +124,3 @@ module _ (text spans : List ℕ) (more at : ℕ) (a : Word) (x : Atoms text (At 
     negation-out e r q =
         let o : negated (rest text at) ≡ outside = negation-left ∙ rw e in
         record { means = means-none (negated (rest text at)) o r q }
-
--- ---- the end of a list
-
-module _ {text : List ℕ} {at : ℕ} (z : Place) (c : Closes text (At at) z) (adds dels : ℕ) (known : Bool) where
-  pub end-in : (n : ℕ) → z ≡ At n
-      → EndAt text at adds dels known (record { adds = adds; dels = dels; known = known; place = At n })
-  end-in n e = record { closed = z; closes = c; same = rw e }
-
-  pub end-out : z ≡ Outside → (r : Literals) → r ≡ nothing → EndAt text at adds dels known r
-  end-out e r q = record { closed = z; closes = c; same = rw e q }

@@ -3,8 +3,8 @@
 ghost use mathlib.Core.Path.{_≡_};
 ghost use Prim.Native.Nat.{_≤_, _^_, _<_};
 ghost use lib.ListN.{length};
-ghost use Rattle.pddl_formula.specs.Inner.Formula.{Ready, nothing, FactOf, Headed};
-ghost use Rattle.pddl_formula.specs.Inner.Formula.{EndAt, NegationAt, LiteralAt};
+ghost use Rattle.pddl_formula.specs.Inner.Formula.{Ready, nothing, FactOf};
+ghost use Rattle.pddl_formula.specs.Inner.Formula.{LiteralAt, NegationAt};
 ghost use Rattle.pddl_formula.specs.Inner.Formula.{FormulaAt, ListAt, Goes};
 
 // The facts that a formula adds and those that it deletes, whether all its names are known,
@@ -20,13 +20,6 @@ pub struct Literals {
 pub struct Fact {
     pub bit: u64,
     pub known: bool,
-}
-
-// What a formula begins with: `(and`, `(not`, with the offset behind it, or something else.
-enum Opening {
-    And(usize),
-    Not(usize),
-    Other,
 }
 
 fn outside() -> Literals
@@ -65,42 +58,27 @@ pub fn fact_of(text: &[u8], spans: &[usize], more: usize, s: usize, e: usize) ->
     }
 }
 
-fn head(text: &[u8], at: usize) -> Opening
-    ensures { λ r. ⌜ Headed (now (text .entry)) at r ⌝ }
+// The word s..e behind an opening parenthesis, as an atom: a name and the closing parenthesis.
+fn literal(text: &[u8], spans: &[usize], more: usize, s: usize, e: usize) -> Literals
+    requires { ⌜ Ready (now text) (now spans) × (e ≤ length (now text)) ⌝ }
+    ensures { λ r. ⌜ LiteralAt (now (text .entry)) (now (spans .entry)) more s e r ⌝ }
 {
-    let a = pddl_form::expect(text, pddl_form::Place::At(at), b"(and");
-    match a {
-        pddl_form::Place::At(n) => Opening::And(n),
-        pddl_form::Place::Outside => {
-            let b = pddl_form::expect(text, pddl_form::Place::At(at), b"(not");
-            match b {
-                pddl_form::Place::At(n) => Opening::Not(n),
-                pddl_form::Place::Outside => Opening::Other,
+    if pddl_name::is_name(text, s, e) {
+        let closed = pddl_form::close_at(text, pddl_form::Place::At(e));
+        match closed {
+            pddl_form::Place::At(n) => {
+                let f = fact_of(text, spans, more, s, e);
+                Literals {
+                    adds: f.bit,
+                    dels: 0,
+                    known: f.known,
+                    place: pddl_form::Place::At(n),
+                }
             }
+            pddl_form::Place::Outside => outside(),
         }
-    }
-}
-
-// An atom as a formula.
-fn literal(text: &[u8], spans: &[usize], more: usize, at: usize) -> Literals
-    requires { ⌜ Ready (now text) (now spans) ⌝ }
-    ensures { λ r. ⌜ LiteralAt (now (text .entry)) (now (spans .entry)) more at r ⌝ }
-{
-    let a = pddl_form::atom_at(text, pddl_form::Place::At(at));
-    let first = a.first;
-    let end = a.end;
-    let behind = a.place;
-    match behind {
-        pddl_form::Place::At(n) => {
-            let f = fact_of(text, spans, more, first, end);
-            Literals {
-                adds: f.bit,
-                dels: 0,
-                known: f.known,
-                place: pddl_form::Place::At(n),
-            }
-        }
-        pddl_form::Place::Outside => outside(),
+    } else {
+        outside()
     }
 }
 
@@ -128,24 +106,9 @@ fn negation(text: &[u8], spans: &[usize], more: usize, at: usize) -> Literals
     }
 }
 
-// The literals so far, where a list of formulas ends.
-fn end_of(text: &[u8], at: usize, adds: u64, dels: u64, known: bool) -> Literals
-    ensures { λ r. ⌜ EndAt (now (text .entry)) at adds dels known r ⌝ }
-{
-    let closed = pddl_form::close_at(text, pddl_form::Place::At(at));
-    match closed {
-        pddl_form::Place::At(n) => Literals {
-            adds,
-            dels,
-            known,
-            place: pddl_form::Place::At(n),
-        },
-        pddl_form::Place::Outside => outside(),
-    }
-}
-
-// A formula in which `and` may stand `allowed` deep, with negations or without.
-pub fn formula(
+// A formula from behind its opening parenthesis, in which `and` may stand `allowed` deep, with
+// negations or without.
+fn formula(
     text: &[u8],
     spans: &[usize],
     more: usize,
@@ -157,23 +120,31 @@ pub fn formula(
     ensures { λ r. ⌜ FormulaAt (now (text .entry)) (now (spans .entry)) more negations
         allowed at r ⌝ }
 {
-    let h = head(text, at);
-    match h {
-        Opening::And(n) => {
-            if allowed == 0 {
-                outside()
+    let t = pddl_token::next_token(text, at);
+    match t {
+        pddl_token::Token::Open(n) => outside(),
+        pddl_token::Token::Close(n) => outside(),
+        pddl_token::Token::Word(s, e) => {
+            if pddl_name::same(text, s, e, b"and", 0, 3) {
+                if allowed == 0 {
+                    outside()
+                } else {
+                    formulas(text, spans, more, e, negations, allowed - 1)
+                }
             } else {
-                formulas(text, spans, more, n, negations, allowed - 1)
+                if pddl_name::same(text, s, e, b"not", 0, 3) {
+                    if negations {
+                        negation(text, spans, more, e)
+                    } else {
+                        outside()
+                    }
+                } else {
+                    literal(text, spans, more, s, e)
+                }
             }
         }
-        Opening::Not(n) => {
-            if negations {
-                negation(text, spans, more, n)
-            } else {
-                outside()
-            }
-        }
-        Opening::Other => literal(text, spans, more, at),
+        pddl_token::Token::End => outside(),
+        pddl_token::Token::Stray => outside(),
     }
 }
 
@@ -194,17 +165,39 @@ fn formulas(
     let mut known = true;
     let mut i = at;
     loop {
-        let f = formula(text, spans, more, i, negations, allowed);
-        let behind = f.place;
-        match behind {
-            pddl_form::Place::At(n) => {
-                adds = adds | f.adds;
-                dels = dels | f.dels;
-                known = known & f.known;
-                i = n;
+        let t = pddl_token::next_token(text, i);
+        match t {
+            pddl_token::Token::Open(n) => {
+                let f = formula(text, spans, more, n, negations, allowed);
+                let behind = f.place;
+                match behind {
+                    pddl_form::Place::At(k) => {
+                        adds = adds | f.adds;
+                        dels = dels | f.dels;
+                        known = known & f.known;
+                        i = k;
+                    }
+                    pddl_form::Place::Outside => {
+                        return outside();
+                    }
+                }
             }
-            pddl_form::Place::Outside => {
-                return end_of(text, i, adds, dels, known);
+            pddl_token::Token::Close(n) => {
+                return Literals {
+                    adds,
+                    dels,
+                    known,
+                    place: pddl_form::Place::At(n),
+                };
+            }
+            pddl_token::Token::Word(s, e) => {
+                return outside();
+            }
+            pddl_token::Token::End => {
+                return outside();
+            }
+            pddl_token::Token::Stray => {
+                return outside();
             }
         }
     }
@@ -221,7 +214,8 @@ pub fn formula_at(
     requires { ⌜ Ready (now text) (now spans) ⌝ }
     ensures { λ r. ⌜ Goes (now (text .entry)) (now (spans .entry)) more negations p r ⌝ }
 {
-    match p {
+    let inside = pddl_form::open_at(text, p);
+    match inside {
         pddl_form::Place::At(n) => formula(text, spans, more, n, negations, 16),
         pddl_form::Place::Outside => outside(),
     }

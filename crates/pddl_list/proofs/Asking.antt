@@ -1,83 +1,59 @@
 -- Loops over lists of atoms: what is asked of the whole is what is asked of the atoms from i on.
-use mathlib.Core.Path.{_≡_, refl, sym, ap}
-use mathlib.Core.Bool.{Bool, true, false, not, _&&_}
+use mathlib.Core.Path.{_≡_, refl, sym}
+use mathlib.Core.Bool.{Bool, true, false, _&&_}
 use mathlib.Core.List.{List}
-use Prim.Native.Nat.{ℕ, suc, _+_, _≤_}
+use Prim.Native.Nat.{ℕ, _+_, _≤_}
 use native.Mathlib.Omega.{arith}
 use lib.ListN.{length}
 use Rattle.semantics.specs.Base.{allOf}
 use Rattle.semantics.specs.Pddl.{same, isIn, sameNames, noneTwice}
 use Rattle.pddl_theory.specs.Inner.Place.{span}
+use Rattle.pddl_theory.proofs.Sizes.{atoms-few}
+use Rattle.pddl_theory.proofs.Turns.{Numbered, numbered-below, numbered-on, numbered-end}
+use Rattle.pddl_theory.proofs.Turns.{Asked, all-not, all-on, all-end, twice-found, twice-on, twice-end}
 use Rattle.pddl_form.specs.Inner.Place.{atomsFrom, Atoms}
 use Rattle.pddl_form.specs.declared.Place.the-variants.{At, Outside}
 use Rattle.pddl_form.specs.declared.Word.{Word}
-use Rattle.pddl_form.proofs.Lists.{atoms-next, atoms-none, atom-onward}
+use Rattle.pddl_form.proofs.Lists.{atoms-next, atoms-none}
 
 -- ---- how many
 
--- n atoms before i, each of them at least a byte
-pub record Counting (text : List ℕ) (at n i : ℕ) : Type 0 where
-  pub bytes : n ≤ i
-  pub whole : length (atomsFrom text at) ≡ n + length (atomsFrom text i)
-
-pub counting-begin : (text : List ℕ) (at : ℕ) → Counting text at 0 at
-counting-begin text at = record { bytes = omega arith; whole = omega arith }
-
-module _ {text : List ℕ} {at n i : ℕ} (g : Counting text at n i) (a : Word) (x : Atoms text (At i) a) where
+module _ {text : List ℕ} {at n i : ℕ} (g : Numbered (atomsFrom text) at n i) (a : Word) (x : Atoms text (At i) a) where
   pub counting-below : (m : ℕ) → a .place ≡ At m → n + 1 ≤ length text
-  counting-below m e = omega (arith, g .bytes, atom-onward x m e .0, atom-onward x m e .1)
+  counting-below m e = omega (arith, numbered-below g m (atoms-next x m e), atoms-few text at)
 
-  pub counting-on : (m : ℕ) → a .place ≡ At m → Counting text at (n + 1) m
-  counting-on m e =
-      let l : length (atomsFrom text i) ≡ suc (length (atomsFrom text m)) = ap length (atoms-next x m e) in
-      record { bytes = omega (arith, g .bytes, atom-onward x m e .0); whole = omega (arith, l, g .whole) }
+  pub counting-on : (m : ℕ) → a .place ≡ At m → Numbered (atomsFrom text) at (n + 1) m
+  counting-on m e = numbered-on g m (atoms-next x m e)
 
   pub counting-end : a .place ≡ Outside → n ≡ length (atomsFrom text at)
-  counting-end e =
-      let l : length (atomsFrom text i) ≡ 0 = ap length (atoms-none x e) in
-      omega (arith, l, g .whole)
+  counting-end e = numbered-end g (atoms-none x e)
 
 -- ---- a question to one list
 
-pub record Asking (f : List (List ℕ) → Bool) (text : List ℕ) (at i : ℕ) : Type 0 where
-  pub whole : f (atomsFrom text at) ≡ f (atomsFrom text i)
-
-pub asking-begin : (f : List (List ℕ) → Bool) (text : List ℕ) (at : ℕ) → Asking f text at at
-asking-begin f text at = record { whole = refl }
-
 module _ {text : List ℕ} {at i : ℕ} where
-  module _ (g : Asking noneTwice text at i) (a : Word) (x : Atoms text (At i) a) where
+  module _ (g : Asked noneTwice (atomsFrom text) at i) (a : Word) (x : Atoms text (At i) a) where
     module _ (n : ℕ) (e : a .place ≡ At n) (b : Bool)
         (is : b ≡ isIn (atomsFrom text n) (span text (a .first) (a .end))) where
-      distinct-turn : noneTwice (atomsFrom text at) ≡ (not b && noneTwice (atomsFrom text n))
-      unfolding noneTwice
-      distinct-turn = rw (g .whole, atoms-next x n e, is)
-
       pub distinct-not : b ≡ true → false ≡ noneTwice (atomsFrom text at)
-      distinct-not h = sym (rw h at distinct-turn)
+      distinct-not h = twice-found g n (atoms-next x n e) b is h
 
-      pub distinct-on : b ≡ false → Asking noneTwice text at n
-      distinct-on h = record { whole = rw h at distinct-turn }
+      pub distinct-on : b ≡ false → Asked noneTwice (atomsFrom text) at n
+      distinct-on h = twice-on g n (atoms-next x n e) b is h
 
     pub distinct-end : a .place ≡ Outside → true ≡ noneTwice (atomsFrom text at)
-    unfolding noneTwice
-    distinct-end e = rw (g .whole, atoms-none x e)
+    distinct-end e = twice-end g (atoms-none x e)
 
-  module _ (ws : List (List ℕ)) (g : Asking (allOf (isIn ws)) text at i) (a : Word) (x : Atoms text (At i) a) where
+  module _ (ws : List (List ℕ)) (g : Asked (allOf (isIn ws)) (atomsFrom text) at i) (a : Word)
+      (x : Atoms text (At i) a) where
     module _ (n : ℕ) (e : a .place ≡ At n) (b : Bool) (is : b ≡ isIn ws (span text (a .first) (a .end))) where
-      covered-turn : allOf (isIn ws) (atomsFrom text at) ≡ (b && allOf (isIn ws) (atomsFrom text n))
-      unfolding allOf
-      covered-turn = rw (g .whole, atoms-next x n e, is)
-
       pub covered-not : b ≡ false → false ≡ allOf (isIn ws) (atomsFrom text at)
-      covered-not h = sym (rw h at covered-turn)
+      covered-not h = all-not (isIn ws) g n (atoms-next x n e) b is h
 
-      pub covered-on : b ≡ true → Asking (allOf (isIn ws)) text at n
-      covered-on h = record { whole = rw h at covered-turn }
+      pub covered-on : b ≡ true → Asked (allOf (isIn ws)) (atomsFrom text) at n
+      covered-on h = all-on (isIn ws) g n (atoms-next x n e) b is h
 
     pub covered-end : a .place ≡ Outside → true ≡ allOf (isIn ws) (atomsFrom text at)
-    unfolding allOf
-    covered-end e = rw (g .whole, atoms-none x e)
+    covered-end e = all-end (isIn ws) g (atoms-none x e)
 
 -- ---- two lists
 

@@ -6,6 +6,7 @@ ghost use Prim.Native.Nat.{_≤_, _*_};
 ghost use lib.ListN.{length};
 ghost use Rattle.semantics.specs.Base.{allOf};
 ghost use Rattle.semantics.specs.Pddl.{isIn, sameNames, noneTwice};
+ghost use Rattle.pddl_name.specs.Inner.Table.{namesIn, Spans};
 ghost use Rattle.pddl_form.specs.Inner.Place.{atomsFrom};
 ghost use Rattle.pddl_list.specs.Inner.Table.{Tabled};
 
@@ -99,6 +100,28 @@ pub fn distinct(text: &[u8], at: usize) -> bool
             }
         }
     }
+}
+
+// Is none of the names of a table there twice?
+pub fn distinct_in(text: &[u8], spans: &[usize]) -> bool
+    requires { ⌜ Spans (length (now text)) (now spans) ⌝ }
+    ensures { λ r. ⌜ r ≡ noneTwice (namesIn (now (text .entry)) (now (spans .entry))) ⌝ }
+{
+    let mut i = 0;
+    while i + 1 < spans.len() {
+        let first = spans[i];
+        let end = spans[i + 1];
+        let f = pddl_name::lookup(text, &spans[i + 2..], first, end);
+        match f {
+            pddl_name::Found::At(k) => {
+                return false;
+            }
+            pddl_name::Found::Absent => {
+                i += 2;
+            }
+        }
+    }
+    true
 }
 
 // Does each atom from one offset on stand among those from another on?

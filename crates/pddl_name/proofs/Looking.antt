@@ -1,5 +1,5 @@
 -- The loop of a look into a table: the word is at none of the places before k.
-use mathlib.Core.Path.{_≡_, refl, sym, ap, _∙_}
+use mathlib.Core.Path.{_≡_, refl, ap, _∙_}
 use mathlib.Core.Bool.{Bool, true, false, cond, _||_}
 use mathlib.Core.List.{List, [], _∷_}
 use Prim.Native.Nat.{ℕ, suc, _+_, _*_, _^_, _≤_, _<_}
@@ -11,8 +11,7 @@ use lib.Seq.{drop-cons}
 use Rattle.semantics.specs.Base.{anyOf}
 use Rattle.semantics.specs.Pddl.{same, isIn, bitFrom}
 use Rattle.pddl_theory.specs.Inner.Place.{span}
-use Rattle.pddl_name.specs.Inner.Table.{namesIn, Spans, Here, NotHere, Looked}
-use Rattle.pddl_name.specs.declared.Found.{Found}
+use Rattle.pddl_name.specs.Inner.Table.{namesIn, Looked}
 use Rattle.pddl_name.specs.declared.Found.the-variants.{At, Absent}
 
 few : (text l : List ℕ) → length l < 2 → namesIn text l ≡ []

@@ -1,19 +1,20 @@
 -- Parts of texts in small letters: byte by byte, and the loops over them.
-use mathlib.Core.Path.{_≡_, refl, sym, _∙_}
+use mathlib.Core.Path.{_≡_, refl, sym, ap, _∙_}
 use mathlib.Core.Bool.{Bool, true, false, not, _&&_}
-use mathlib.Core.List.{List, [], _∷_, map}
-use Prim.Native.Nat.{ℕ, _+_, _≤_, _<_}
+use mathlib.Core.List.{List, [], _∷_}
+use Prim.Native.Nat.{ℕ, _+_, _-_, _≤_, _<_}
 use native.Mathlib.Numerals.{add-one}
 use native.Mathlib.Omega.{arith}
-use lib.ListN.{length, take, getD, drop-of-length-le, length-take}
+use lib.ListN.{length, take, getD, length-map, List·getD-map, drop-of-length-le, length-take}
 use lib.Dec.{eqb, leb}
-use lib.Seq.{slice-cons}
+use lib.Seq.{slice, slice-cons, length-slice, getD-take, getD-drop}
 use borrow.Author.Tests.{eq-eqb, ne-eqb, leb-true, leb-false}
 use Rattle.semantics.specs.Base.{allOf}
 use Rattle.semantics.specs.Task.{between}
 use Rattle.semantics.specs.Pddl.{small, same, isLetter, isName, and′, not′}
-use Rattle.theory.proofs.Lists.{and-elim}
+use Rattle.theory.proofs.Lists.{and-elim, not-true-false}
 use Rattle.pddl_theory.specs.Inner.Place.{span}
+use Rattle.pddl_theory.proofs.Sets.{same-eq}
 
 pub capital-below : (b : ℕ) → between 65 b 90 ≡ true → b ≤ 90
 capital-below b h = leb-true b 90 (and-elim (leb 65 b) (leb b 90) h .1)
@@ -69,6 +70,45 @@ module _ {text : List ℕ} {s e : ℕ} {other : List ℕ} {t u i j : ℕ} (g : A
 
   pub agree-end : e ≤ i → u ≤ length other → leb u j ≡ same (span text s e) (span other t u)
   agree-end hi lu = rw (g .whole, span-nil text i e hi) (end-test other j u lu (leb u j) refl)
+
+-- parts are told apart by their lengths, or by their last bytes
+
+span-length : (text : List ℕ) (s e : ℕ) → e ≤ length text → length (span text s e) ≡ e - s
+span-length text s e l = length-map (slice s e text) small ∙ length-slice s e text l
+
+span-last : (text : List ℕ) (s e : ℕ) → s < e → getD (span text s e) (e - s - 1) (small 0) ≡ small (getD text (e - 1) 0)
+span-last text s e h =
+    let k : s + (e - s - 1) ≡ e - 1 = omega arith in
+    let l : e - 1 < e = omega arith in
+    List·getD-map small (slice s e text) (e - s - 1) 0
+    ∙ ap small (getD-drop s (take e text) (e - s - 1) 0 ∙ rw k (getD-take e text (e - 1) 0 l))
+
+module _ (text : List ℕ) (s e : ℕ) (other : List ℕ) (t u : ℕ) where
+  apart-by : (same (span text s e) (span other t u) ≡ true → ⊥) → false ≡ same (span text s e) (span other t u)
+  apart-by n = sym (not-true-false (same (span text s e) (span other t u)) n)
+
+  -- the first part is empty, or only the second is
+  pub none-here : e ≤ s → u ≤ length other → leb u t ≡ same (span text s e) (span other t u)
+  none-here h l = agree-end (agree-begin text s e other t u) h l
+
+  module _ (h : s < e) (le : e ≤ length text) where
+    pub none-there : u ≤ t → false ≡ same (span text s e) (span other t u)
+    none-there k = shorter (agree-begin text s e other t u) h le k
+
+    module _ (k : t < u) (lu : u ≤ length other) where
+      pub lengths-differ : (e - s ≡ u - t → ⊥) → false ≡ same (span text s e) (span other t u)
+      lengths-differ n = apart-by λ q.
+          n (sym (span-length text s e le) ∙ ap length (same-eq (span text s e) (span other t u) q)
+          ∙ span-length other t u lu)
+
+      pub lasts-differ : e - s ≡ u - t → (a b : ℕ) → a ≡ small (getD text (e - 1) 0) → b ≡ small (getD other (u - 1) 0)
+          → (a ≡ b → ⊥) → false ≡ same (span text s e) (span other t u)
+      lasts-differ p a b is-a is-b n = apart-by λ q.
+          let i : e - s - 1 ≡ u - t - 1 = omega arith in
+          n (is-a ∙ sym (span-last text s e h)
+          ∙ ap (λ (w : List ℕ). getD w (e - s - 1) (small 0)) (same-eq (span text s e) (span other t u) q)
+          ∙ ap (λ (j : ℕ). getD (span other t u) j (small 0)) i
+          ∙ span-last other t u k ∙ sym is-b)
 
 -- ---- a part without a colon
 

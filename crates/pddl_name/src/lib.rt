@@ -1,11 +1,9 @@
 // Words of a text of PDDL: whether two are the same, letter case apart, whether one is a name, and
 // where one stands in a table of words.
 ghost use mathlib.Core.Path.{_≡_};
-ghost use mathlib.Core.List.{map};
 ghost use mathlib.Core.Bool.{not};
 ghost use Prim.Native.Nat.{_≤_};
 ghost use lib.ListN.{length};
-ghost use lib.Seq.{slice};
 ghost use lib.Dec.{eqb};
 ghost use Rattle.semantics.specs.Base.{allOf};
 ghost use Rattle.semantics.specs.Pddl as Pddl;
@@ -26,8 +24,8 @@ pub fn to_small(b: u8) -> u8
     if (b'A' <= b) & (b <= b'Z') { b + 32 } else { b }
 }
 
-// Is the part s..e of a text the same word as the part t..u of another?
-pub fn same(text: &[u8], s: usize, e: usize, other: &[u8], t: usize, u: usize) -> bool
+// Is the part s..e of a text the part t..u of another, byte by byte, letter case apart?
+fn same_bytes(text: &[u8], s: usize, e: usize, other: &[u8], t: usize, u: usize) -> bool
     requires { ⌜ (e ≤ length (now text)) × (u ≤ length (now other)) ⌝ }
     ensures { λ r. ⌜ r ≡ Pddl.same (span (now (text .entry)) s e)
         (span (now (other .entry)) t u) ⌝ }
@@ -47,6 +45,28 @@ pub fn same(text: &[u8], s: usize, e: usize, other: &[u8], t: usize, u: usize) -
         j += 1;
     }
     u <= j
+}
+
+// Is the part s..e of a text the same word as the part t..u of another? Parts of other lengths or
+// with other last bytes are told apart before any loop.
+pub fn same(text: &[u8], s: usize, e: usize, other: &[u8], t: usize, u: usize) -> bool
+    requires { ⌜ (e ≤ length (now text)) × (u ≤ length (now other)) ⌝ }
+    ensures { λ r. ⌜ r ≡ Pddl.same (span (now (text .entry)) s e)
+        (span (now (other .entry)) t u) ⌝ }
+{
+    if e <= s {
+        return u <= t;
+    }
+    if u <= t {
+        return false;
+    }
+    if e - s != u - t {
+        return false;
+    }
+    if to_small(text[e - 1]) != to_small(other[u - 1]) {
+        return false;
+    }
+    same_bytes(text, s, e, other, t, u)
 }
 
 fn letter(b: u8) -> bool

@@ -1,22 +1,20 @@
 -- Members that agree with what all share.
-use mathlib.Core.Path.{_≡_, refl, sym, ap, ap₂, _∙_}
-use mathlib.Core.Bool.{Bool, true, false, _&&_}
-use mathlib.Core.List.{List, [], _∷_, _++_, append-nil}
-use Prim.Native.Nat.{ℕ, _≤_, _<_}
-use lib.ListN.{length}
+use mathlib.Core.Path.{_≡_, refl, sym, ap, _∙_}
+use mathlib.Core.Bool.{Bool, true, false, _&&_, and-assoc}
+use mathlib.Core.List.{List, _++_, append-nil}
+use Prim.Native.Nat.{ℕ, _≤_}
 use lib.Dec.{eqb}
 use Rattle.semantics.specs.Base.{allOf}
-use Rattle.semantics.specs.Pddl as Pddl
-use Rattle.semantics.specs.Pddl.{isIn, maskOf, sameSet, sameNames, noneTwice, knownAction, known, same, wellNamed}
+use Rattle.semantics.specs.Pddl.{isIn, sameSet, sameNames, noneTwice, known, same, wellNamed}
 use Rattle.pddl_theory.specs.Inner.Place.{span}
-use Rattle.pddl_theory.proofs.Sets.{same-set}
+use Rattle.pddl_theory.proofs.Sets.{same-set, sameSet-refl}
 use Rattle.pddl_name.specs.Inner.Table.{namesIn}
 use Rattle.pddl_form.specs.declared.Place.the-variants.{At, Outside}
 use Rattle.pddl_form.specs.Inner.Place.{atomsFrom}
-use Rattle.pddl_formula.specs.declared.Literals.{Literals}
-use Rattle.pddl_formula.specs.Inner.Formula.{Goes}
-use Rattle.pddl_section.specs.Inner.Section.{actionsFrom, literalsAt, memberOf, membersFrom, Members}
+use Rattle.pddl_section.specs.Inner.Section.{memberOf, membersFrom, Members}
+use Rattle.pddl_acts.specs.declared.Own.{Own}
 use Rattle.pddl_acts.specs.Inner.Names.{calledFrom}
+use Rattle.pddl_acts.specs.Inner.Own.{allKnown, OwnIn}
 use Rattle.pddl_section.specs.declared.Member.{Member}
 use Rattle.pddl_section.specs.declared.Problem.{Problem}
 use Rattle.pddl_section.specs.declared.Domain.{Domain}
@@ -24,7 +22,7 @@ use Rattle.pddl_section.proofs.Lists.{members-next, members-none}
 use Rattle.pddl_named.specs.declared.Common.{Common}
 use Rattle.pddl_named.specs.declared.Facts.{Facts}
 use Rattle.pddl_named.specs.Inner.Common.{FactsOf, CommonIn}
-use Rattle.pddl_named.proofs.Gathering.{and-assoc}
+use Rattle.pddl_named.specs.Inner.Rows.{GoalIn, MemberIn}
 
 -- ---- initial facts
 
@@ -58,27 +56,50 @@ module _ {text spans : List ℕ} {c : Common} (x : CommonIn text spans c) (at : 
         → b ≡ allOf (isIn (atomsFrom text at)) (atomsFrom text (c .initially)) → (a && b) ≡ agree text c at
     facts-by-name a b is-a is-b = rw (← known-here, h, is-a, is-b)
 
+-- the first member's own
+pub facts-first : {text spans : List ℕ} {c : Common} → CommonIn text spans c → (at : ℕ) → at ≡ c .initially
+    → true ≡ agree text c at
+facts-first {text} {spans} {c} x at e = sym (rw (e, x .known, sameSet-refl (atomsFrom text (c .initially))))
+
 -- ---- a member
 
 regroup : (a s e f g : Bool) → s ≡ (e && f) → ((a && s) && g) ≡ (((a && e) && f) && g)
-regroup a s e f g is = rw is (ap (λ (b : Bool). b && g) (and-assoc a e f))
+regroup a s e f g is = rw is (ap (λ (b : Bool). b && g) (sym (and-assoc a e f)))
 
 module _ {text spans : List ℕ} {c : Common} (x : CommonIn text spans c) (m : Member) (dom : Domain) (prob : Problem)
     (is-dom : dom ≡ m .domain) (is-prob : prob ≡ m .problem) where
   abbrev P : List (List ℕ)
   P = atomsFrom text (c .predicates)
 
-  pub well-named : (a b d n s : Bool) (g : Literals) → a ≡ sameNames (atomsFrom text (dom .predicates)) P
-      → b ≡ noneTwice (calledFrom text (dom .actions))
-      → d ≡ allOf (knownAction (namesIn text spans ++ atomsFrom text (c .more))) (actionsFrom text (dom .actions))
+  pub well-named : {masks table₀ : List ℕ} {owner first : ℕ} {table goals₀ goals : List ℕ} (o : Own)
+      → OwnIn text spans (c .more) masks table₀ (dom .actions) owner first table o
+      → (a n s g : Bool) → a ≡ sameNames (atomsFrom text (dom .predicates)) P
       → n ≡ same (span text (prob .first) (prob .end)) (span text (dom .first) (dom .end))
-      → s ≡ agree text c (prob .initially) → Goes text spans (c .more) false (prob .goal) g
-      → (((((a && b) && d) && n) && s) && g .known) ≡ wellNamed P (atomsFrom text (c .initially)) (memberOf text m)
+      → s ≡ agree text c (prob .initially) → GoalIn text spans (c .more) (prob .goal) goals₀ owner goals g
+      → MemberIn text spans c m masks table₀ goals₀ owner first table goals
+      (record { count = o .count; named = (((a && o .named) && n) && s) && g })
   unfolding wellNamed
-  well-named a b d n s g is-a is-b is-d is-n is-s y =
-      regroup (((a && b) && d) && n) s (allOf (isIn P) (atomsFrom text (prob .initially)))
-      (sameSet (atomsFrom text (prob .initially)) (atomsFrom text (c .initially))) (g .known) is-s
-      ∙ rw (is-a, is-b, is-d, is-n, y .means .names, ← x .whole, is-dom, is-prob)
+  well-named o y a n s g is-a is-n is-s z =
+      let acts : Bool = noneTwice (calledFrom text (dom .actions)) in
+      let known : Bool = allKnown text spans (c .more) (dom .actions) in
+      record {
+        number = y .number ∙ rw is-dom;
+        names = regroup ((a && o .named) && n) s (allOf (isIn P) (atomsFrom text (prob .initially)))
+            (sameSet (atomsFrom text (prob .initially)) (atomsFrom text (c .initially))) g is-s
+            ∙ rw (
+              is-a,
+              y .names,
+              sym (and-assoc (sameNames (atomsFrom text (dom .predicates)) P) acts known),
+              is-n,
+              z .names,
+              ← x .whole,
+              is-dom,
+              is-prob,
+            );
+        rows-in = rw (← is-dom) (y .rows-in);
+        goal = g;
+        goal-in = rw (← is-prob) z;
+      }
 
 -- ---- all members
 

@@ -1,16 +1,15 @@
 -- A list of atoms as facts, and the actions of all members.
-use mathlib.Core.Path.{_≡_, refl, sym, ap, _∙_}
-use mathlib.Core.Bool.{Bool, true, false, _&&_, and-true}
-use mathlib.Core.List.{List, [], _∷_, _++_, flatten, map}
-use Prim.Native.Nat.{ℕ, _+_, _≤_, _<_}
+use mathlib.Core.Path.{_≡_, sym, ap, _∙_}
+use mathlib.Core.Bool.{Bool, true, _&&_}
+use mathlib.Core.List.{List, _++_, flatten}
+use Prim.Native.Nat.{ℕ, _+_, _≤_}
 use native.Mathlib.Omega.{arith}
 use lib.ListN.{length, length-append}
 use lib.Bits.{bitOr, or-zero-l, or-zero-r}
-use Rattle.semantics.specs.Base.{allOf}
-use Rattle.semantics.specs.Pddl.{isIn, bitFrom, maskOf, actionsOf}
-use Rattle.pddl_theory.specs.Inner.Place.{span}
+use Rattle.semantics.specs.Pddl.{isIn, maskOf, actionsOf}
 use Rattle.pddl_theory.proofs.Sets.{or-bits-assoc}
 use Rattle.pddl_theory.proofs.Sizes.{actions-few}
+use Rattle.pddl_theory.proofs.Turns.{Held, held-begin, held-on, held-end}
 use Rattle.pddl_name.specs.Inner.Table.{namesIn}
 use Rattle.pddl_form.specs.declared.Place.the-variants.{At, Outside}
 use Rattle.pddl_form.specs.declared.Word.{Word}
@@ -18,7 +17,7 @@ use Rattle.pddl_form.specs.Inner.Place.{atomsFrom, Atoms}
 use Rattle.pddl_form.proofs.Lists.{atoms-next, atoms-none}
 use Rattle.pddl_formula.specs.declared.Fact.{Fact}
 use Rattle.pddl_formula.specs.Inner.Formula.{FactOf}
-use Rattle.pddl_section.specs.Inner.Section.{actionsFrom, memberOf, membersFrom, Members}
+use Rattle.pddl_section.specs.Inner.Section.{actionsFrom, membersFrom, Members}
 use Rattle.pddl_section.specs.declared.Member.{Member}
 use Rattle.pddl_section.specs.declared.Problem.{Problem}
 use Rattle.pddl_section.specs.declared.Domain.{Domain}
@@ -27,40 +26,37 @@ use Rattle.pddl_named.specs.Inner.Common.{FactsOf}
 
 -- ---- atoms as facts
 
-abbrev allKnown : List ℕ → List ℕ → ℕ → List (List ℕ) → Bool
-allKnown text spans more ws = allOf (isIn (namesIn text spans ++ atomsFrom text more)) ws
-
 -- the mask of the atoms before i, and whether they are known
 pub record Gathering (text spans : List ℕ) (more at mask : ℕ) (known : Bool) (i : ℕ) : Type 0 where
   pub masks : maskOf (namesIn text spans) (atomsFrom text at) ≡ bitOr mask
       (maskOf (namesIn text spans) (atomsFrom text i))
-  pub names : allKnown text spans more (atomsFrom text at) ≡ (known && allKnown text spans more (atomsFrom text i))
+  pub names : Held (isIn (namesIn text spans ++ atomsFrom text more)) (atomsFrom text) at known i
 
 pub gathering-begin : (text spans : List ℕ) (more at : ℕ) → Gathering text spans more at 0 true at
-gathering-begin text spans more at = record { masks = sym (or-zero-l _); names = refl }
-
-pub and-assoc : (a b c : Bool) → (a && (b && c)) ≡ ((a && b) && c)
-and-assoc true b c = refl
-and-assoc false b c = refl
+gathering-begin text spans more at =
+    record {
+      masks = sym (or-zero-l _);
+      names = held-begin (isIn (namesIn text spans ++ atomsFrom text more)) (atomsFrom text) at;
+    }
 
 module _ {text spans : List ℕ} {more at mask : ℕ} {known : Bool} {i : ℕ} (g : Gathering text spans more at mask known i)
     (a : Word) (x : Atoms text (At i) a) where
   pub gathering-on : (n : ℕ) → a .place ≡ At n → (f : Fact) → FactOf text spans more (a .first) (a .end) f
       → Gathering text spans more at (bitOr mask (f .bit)) (known && f .known) n
-  unfolding maskOf allOf
+  unfolding maskOf
   gathering-on n e f y =
       record {
         masks = g .masks ∙ rw (atoms-next x n e, ← y .bit) (sym (or-bits-assoc mask (f .bit) _));
-        names = g .names ∙ rw (atoms-next x n e, ← y .names) (and-assoc known (f .known)
-            (allKnown text spans more (atomsFrom text n)));
+        names = held-on (isIn (namesIn text spans ++ atomsFrom text more)) (g .names) n (atoms-next x n e) (f .known)
+            (y .names);
       }
 
   pub gathered : a .place ≡ Outside → FactsOf text spans more at (record { mask = mask; known = known })
-  unfolding maskOf allOf
+  unfolding maskOf
   gathered e =
       record {
         mask = sym (g .masks ∙ rw (atoms-none x e) (or-zero-r mask));
-        names = sym (g .names ∙ rw (atoms-none x e) (and-true known));
+        names = held-end (isIn (namesIn text spans ++ atomsFrom text more)) (g .names) (atoms-none x e);
       }
 
 -- ---- the actions of all members

@@ -1,3 +1,4 @@
 -- Laws that belong to no one function.
 pub mod Agreeing
 pub mod Gathering
+pub mod Passing

@@ -1,15 +1,22 @@
 // The names of a law in PDDL, of which the form is known: whether all are known, none stands twice
-// where it may not, and the members agree.
+// where it may not, and the members agree. In the same pass their rows are made.
 ghost use mathlib.Core.Path.{_≡_};
-ghost use Prim.Native.Nat.{_≤_};
+ghost use Prim.Native.Nat.{_+_, _*_, _≤_};
 ghost use lib.ListN.{length};
 ghost use Rattle.semantics.specs.Base.{allOf};
 ghost use mathlib.Core.Bool.{_&&_};
-ghost use Rattle.semantics.specs.Pddl.{isIn, sameSet, wellNamed, actionsOf};
+ghost use Rattle.semantics.specs.Pddl.{isIn, sameSet};
 ghost use Rattle.pddl_form.specs.Inner.Place.{atomsFrom};
 ghost use Rattle.pddl_formula.specs.Inner.Formula.{Ready};
-ghost use Rattle.pddl_section.specs.Inner.Section.{memberOf, membersFrom};
+ghost use Rattle.pddl_section.specs.Inner.Section.{actionsFrom};
+ghost use Rattle.pddl_members.specs.Inner.Kept.{Kept};
 ghost use Rattle.pddl_named.specs.Inner.Common.{FactsOf, CommonIn};
+ghost use Rattle.pddl_named.specs.Inner.Rows.{GoalIn, MemberIn, MembersIn};
+
+// Words in a row.
+const ROW: usize = 5;
+
+const MOST_MEMBERS: usize = 8;
 
 // What all members share: the offsets of the first one's predicates and initial facts, how many
 // predicates there are, the offset of those that are not in the table, the initial facts as a mask.
@@ -55,7 +62,7 @@ pub fn facts_from(text: &[u8], spans: &[usize], more: usize, at: usize) -> Facts
 }
 
 // Are the member's initial facts known, and those of the first member? By masks where the table has
-// all predicates.
+// all predicates. The first member's own are known.
 fn same_facts(text: &[u8], spans: &[usize], c: Common, at: usize) -> bool
     requires { ⌜ CommonIn (now text) (now spans) c ⌝ }
     ensures { λ r. ⌜ r ≡ (allOf (isIn (atomsFrom (now (text .entry)) (c .predicates)))
@@ -63,6 +70,9 @@ fn same_facts(text: &[u8], spans: &[usize], c: Common, at: usize) -> bool
         && sameSet (atomsFrom (now (text .entry)) at)
         (atomsFrom (now (text .entry)) (c .initially))) ⌝ }
 {
+    if at == c.initially {
+        return true;
+    }
     let f = facts_from(text, spans, c.more, at);
     if f.known {
         if c.facts <= 64 {
@@ -75,69 +85,107 @@ fn same_facts(text: &[u8], spans: &[usize], c: Common, at: usize) -> bool
     }
 }
 
-// Is a member well named?
-fn well_named(text: &[u8], spans: &[usize], c: Common, m: pddl_section::Member) -> bool
+// Are all facts of a goal known? Its row goes to its place in the table, if there is room for it.
+fn goal_named(
+    text: &[u8],
+    spans: &[usize],
+    more: usize,
+    goal: pddl_form::Place,
+    goals: &mut [u64],
+    owner: usize,
+) -> bool
+    requires { ⌜ Ready (now text) (now spans) ⌝ }
+    requires { ⌜ 5 * 8 ≤ length (now goals) ⌝ }
+    ensures { λ r. ⌜ GoalIn (now (text .entry)) (now (spans .entry)) more goal
+        (now (goals .entry)) owner (now (goals .exit)) r ⌝ }
+{
+    let g = pddl_formula::formula_at(text, spans, more, goal, false);
+    if owner < MOST_MEMBERS {
+        let at = ROW * owner;
+        pddl_words::put_row(goals, at, owner as u64, g.adds, 0, 0, 0);
+    }
+    g.known
+}
+
+// Is a member well named? The rows of its actions go into the table, its goal row into that of
+// `goals`. `owner` is its number, `first` that of its first action.
+fn well_named(
+    text: &[u8],
+    spans: &[usize],
+    c: Common,
+    m: pddl_section::Member,
+    waits: &[u64],
+    table: &mut [u64],
+    goals: &mut [u64],
+    owner: usize,
+    first: usize,
+) -> pddl_acts::Own
     requires { ⌜ CommonIn (now text) (now spans) c ⌝ }
     requires { ⌜ (m .domain .end ≤ length (now text)) × (m .problem .end ≤ length (now text)) ⌝ }
-    ensures { λ r. ⌜ r ≡ wellNamed (atomsFrom (now (text .entry)) (c .predicates))
-        (atomsFrom (now (text .entry)) (c .initially)) (memberOf (now (text .entry)) m) ⌝ }
+    requires { ⌜ (5 * 256 ≤ length (now table)) × (256 ≤ length (now waits)) ⌝ }
+    requires { ⌜ 5 * 8 ≤ length (now goals) ⌝ }
+    requires { ⌜ first + length (actionsFrom (now text) (m .domain .actions))
+        ≤ length (now text) ⌝ }
+    ensures { λ r. ⌜ MemberIn (now (text .entry)) (now (spans .entry)) c m (now (waits .entry))
+        (now (table .entry)) (now (goals .entry)) owner first (now (table .exit))
+        (now (goals .exit)) r ⌝ }
 {
     let d = m.domain;
     let p = m.problem;
     let goal = p.goal;
+    let number = owner as u64;
+    let own = pddl_acts::own_actions(text, spans, c.more, waits, table, d.actions, number, first);
     let alike = pddl_list::alike(text, d.predicates, c.predicates);
-    let distinct = pddl_acts::distinct(text, d.actions);
-    let known = pddl_acts::known(text, spans, c.more, d.actions);
     let named = pddl_name::same(text, p.first, p.end, text, d.first, d.end);
     let start = same_facts(text, spans, c, p.initially);
-    let g = pddl_formula::formula_at(text, spans, c.more, goal, false);
-    alike & distinct & known & named & start & g.known
-}
-
-// Are all members well named?
-pub fn all_named(text: &[u8], spans: &[usize], c: Common) -> bool
-    requires { ⌜ CommonIn (now text) (now spans) c ⌝ }
-    ensures { λ r. ⌜ r ≡ allOf (wellNamed (atomsFrom (now (text .entry)) (c .predicates))
-        (atomsFrom (now (text .entry)) (c .initially))) (membersFrom (now (text .entry)) 0) ⌝ }
-{
-    let mut i = 0;
-    loop {
-        let m = pddl_reader::member_at(text, i);
-        let problem = m.problem;
-        let behind = problem.place;
-        match behind {
-            pddl_form::Place::At(n) => {
-                if well_named(text, spans, c, m) {
-                    i = n;
-                } else {
-                    return false;
-                }
-            }
-            pddl_form::Place::Outside => {
-                return true;
-            }
-        }
+    let known = goal_named(text, spans, c.more, goal, goals, owner);
+    pddl_acts::Own {
+        count: own.count,
+        named: alike & own.named & named & start & known,
     }
 }
 
-// The number of actions of all members.
-pub fn actions(text: &[u8]) -> usize
-    ensures { λ r. ⌜ r ≡ length (actionsOf (membersFrom (now (text .entry)) 0)) ⌝ }
+// How many actions the members have, and whether all members are well named. The actions' rows go
+// into the table, the goal rows into that of `goals`; that of `places` has the first members.
+pub fn all_named(
+    text: &[u8],
+    spans: &[usize],
+    places: &[usize],
+    c: Common,
+    waits: &[u64],
+    table: &mut [u64],
+    goals: &mut [u64],
+) -> pddl_acts::Own
+    requires { ⌜ CommonIn (now text) (now spans) c ⌝ }
+    requires { ⌜ Kept (now text) (now places) ⌝ }
+    requires { ⌜ (5 * 256 ≤ length (now table)) × (256 ≤ length (now waits)) ⌝ }
+    requires { ⌜ 5 * 8 ≤ length (now goals) ⌝ }
+    ensures { λ r. ⌜ MembersIn (now (text .entry)) (now (spans .entry)) c (now (waits .entry))
+        (now (table .entry)) (now (goals .entry)) (now (table .exit)) (now (goals .exit)) r ⌝ }
 {
+    let mut owner = 0;
     let mut count = 0;
     let mut i = 0;
     loop {
-        let m = pddl_reader::member_at(text, i);
-        let domain = m.domain;
+        let m = pddl_members::member_in(text, places, i);
         let problem = m.problem;
         let behind = problem.place;
         match behind {
             pddl_form::Place::At(n) => {
-                count += pddl_acts::count(text, domain.actions);
-                i = n;
+                let own = well_named(text, spans, c, m, waits, table, goals, owner, count);
+                if own.named {
+                    count += own.count;
+                    owner += 1;
+                    i = n;
+                } else {
+                    return pddl_acts::Own {
+                        count: 0,
+                        named: false,
+                    };
+                }
             }
             pddl_form::Place::Outside => {
-                return count;
+                return pddl_acts::Own { count, named: true };
             }
         }
     }

@@ -1,28 +1,32 @@
 -- The readers of sections, step by step.
 use mathlib.Core.Path.{_≡_, refl, sym, ap, _∙_}
-use mathlib.Core.Bool.{Bool, true, false}
+use mathlib.Core.Bool.{Bool, true, false, _&&_}
 use mathlib.Core.List.{List, [], _∷_, _++_}
-use Prim.Native.Nat.{ℕ, _≤_}
+use Prim.Native.Nat.{ℕ}
 use lib.ListN.{length}
 use Rattle.semantics.specs.Pddl as Pddl
-use Rattle.semantics.specs.Pddl.{Token, opening, closing, word, stray, Parsed, outside, parsed, _then_, many, sameToken}
+use Rattle.semantics.specs.Pddl.{Token, opening, closing, word, stray, Parsed, parsed, _then_, many, sameToken}
 use Rattle.semantics.specs.Pddl.{expect, name, atom}
 use Rattle.semantics.specs.Pddl.{define′, domain′, problem′, :predicates, :action, :parameters, :precondition, :effect}
 use Rattle.semantics.specs.Pddl.{:domain, :init, :goal, Literal, formula, depth, action, domain, problem, member}
-use Rattle.pddl_theory.specs.Inner.Place.{rest, span, leaves, items}
+use Rattle.pddl_theory.specs.Inner.Place.{rest, span}
 use Rattle.pddl_theory.proofs.Chain.{via, then-then}
 use Rattle.pddl_form.specs.declared.Place.{Place}
 use Rattle.pddl_form.specs.declared.Place.the-variants.{At, Outside}
 use Rattle.pddl_form.specs.declared.Word.{Word}
-use Rattle.pddl_form.specs.Inner.Place.{offsetOf, left, atomsFrom, Behind, NotBefore, Expects, Closes, Names, AtomsEnd}
+use Rattle.pddl_form.specs.Inner.Place.{offsetOf, left, atomsFrom, Expects, Closes, Names, AtomsEnd}
 use Rattle.pddl_form.proofs.Steps.{expect-step, name-step, list-step, list-step-at, behind-from}
 use Rattle.pddl_form.proofs.Tokens.{behind-behind}
-use Rattle.pddl_section.specs.Inner.Section.{literalsAt, FormulaEnds, actionOf, Acts, actionsFrom, ActionsEnd}
+use Rattle.pddl_formula.specs.declared.Literals.{Literals}
+use Rattle.pddl_formula.specs.Inner.Formula.{Goes}
+use Rattle.pddl_section.specs.Inner.Section.{literalsAt, FormulaEnds, actionOf, Acts, Masked, actionsFrom}
+use Rattle.pddl_section.specs.Inner.Section.{ActionsEnd}
 use Rattle.pddl_section.specs.Inner.Section.{domainOf, Domains, problemOf, Problems, memberOf, Members}
 use Rattle.pddl_section.specs.declared.Act.{Act}
 use Rattle.pddl_section.specs.declared.Domain.{Domain}
 use Rattle.pddl_section.specs.declared.Problem.{Problem}
 use Rattle.pddl_section.specs.declared.Member.{Member}
+use Rattle.pddl_section.proofs.Lists.{formula-ends}
 use Rattle.pddl_section.proofs.Patterns.{action-opening, parameters, effect-word, domain-opening}
 use Rattle.pddl_section.proofs.Patterns.{problem-opening}
 use Rattle.pddl_section.proofs.Patterns.{predicates-opening, domain-naming, init-opening, goal-opening}
@@ -68,9 +72,21 @@ behindName n ts =
 module _ (text : List ℕ) (p a : Place) (w : Word) (b c d e z : Place)
     (x-a : Expects text p (40 ∷ :action) a) (x-w : Names text a w)
     (x-b : Expects text (w .place) (:parameters ++ (40 ∷ 41 ∷ :precondition)) b) (x-c : FormulaEnds text false b c)
-    (x-d : Expects text c :effect d) (x-e : FormulaEnds text true d e) (x-z : Closes text e z) where
+    (x-d : Expects text c :effect d) (x-e : FormulaEnds text true d e) (x-z : Closes text e z)
+    (needs adds dels : ℕ) (known : Bool) where
   abbrev made : Act
-  made = record { first = w .first; end = w .end; precondition = b; effect = d; place = z }
+  made =
+      record {
+        first = w .first;
+        end = w .end;
+        precondition = b;
+        effect = d;
+        needs = needs;
+        adds = adds;
+        dels = dels;
+        known = known;
+        place = z;
+      }
 
   action-same : (left text p then λ _ ts. action ts) ≡ (left text z then λ _ ts. parsed (actionOf text made) ts)
   unfolding action
@@ -99,6 +115,28 @@ module _ (text : List ℕ) (p a : Place) (w : Word) (b c d e z : Place)
             (behind-behind most b c z (x-c .onward)
             (behind-from most c d z (x-d .onward) (behind-behind most d e z (x-e .onward) (x-z .onward))))));
       }
+
+-- the same with the facts that its formulas name
+module _ (text spans : List ℕ) (more : ℕ) (p a : Place) (w : Word) (b : Place) (f : Literals) (d : Place) (g : Literals)
+    (z : Place) (x-a : Expects text p (40 ∷ :action) a) (x-w : Names text a w)
+    (x-b : Expects text (w .place) (:parameters ++ (40 ∷ 41 ∷ :precondition)) b)
+    (x-f : Goes text spans more false b f) (x-d : Expects text (f .place) :effect d)
+    (x-g : Goes text spans more true d g) (x-z : Closes text (g .place) z) where
+  abbrev whole : Act
+  whole = made text p a w b (f .place) d (g .place) z x-a x-w x-b (formula-ends text spans more false b f x-f) x-d
+      (formula-ends text spans more true d g x-g) x-z (f .adds) (g .adds) (g .dels) (f .known && g .known)
+
+  pub an-action-masked : Acts text p whole × Masked text spans more whole
+  an-action-masked = (
+    an-action text p a w b (f .place) d (g .place) z x-a x-w x-b (formula-ends text spans more false b f x-f) x-d
+        (formula-ends text spans more true d g x-g) x-z (f .adds) (g .adds) (g .dels) (f .known && g .known),
+    record {
+      needs = x-f .means .adds;
+      adds = x-g .means .adds;
+      dels = x-g .means .dels;
+      names = rw (x-f .means .names, x-g .means .names);
+    },
+  )
 
 -- ---- a domain
 

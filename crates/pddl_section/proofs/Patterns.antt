@@ -1,8 +1,7 @@
 -- The tokens of the fixed parts.
 use mathlib.Core.Path.{_≡_, refl}
-use mathlib.Core.List.{List, [], _∷_, _++_}
-use Prim.Native.Nat.{ℕ}
-use Rattle.semantics.specs.Pddl.{Token, opening, closing, word, inWord, isBlank, small, tokensFrom, tokens}
+use mathlib.Core.List.{[], _∷_, _++_}
+use Rattle.semantics.specs.Pddl.{opening, closing, word, inWord, isBlank, small, tokensFrom, tokens}
 use Rattle.semantics.specs.Pddl.{define′, domain′, problem′, :predicates, :action, :parameters, :precondition, :effect}
 use Rattle.semantics.specs.Pddl.{:domain, :init, :goal}
 

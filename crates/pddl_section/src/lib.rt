@@ -1,15 +1,21 @@
 // Actions, domains, problems and members of a text of PDDL: their form, and the offsets at which
 // their parts stand.
 ghost use Rattle.pddl_form.specs.declared.Place.the-variants.{At};
-ghost use Rattle.pddl_section.specs.Inner.Section.{FormulaEnds, Acts, ActionsEnd, Domains};
-ghost use Rattle.pddl_section.specs.Inner.Section.{Problems, Members, Counted};
+ghost use Rattle.pddl_formula.specs.Inner.Formula.{Ready};
+ghost use Rattle.pddl_section.specs.Inner.Section.{FormulaEnds, Acts, Masked, ActionsEnd};
+ghost use Rattle.pddl_section.specs.Inner.Section.{Domains, Problems, Members};
 
-// An action: its name, the places of its precondition and its effect, the place behind it.
+// An action: its name, the places of its precondition and its effect, the facts that it needs, adds
+// and deletes, whether all that it names are known, the place behind it.
 pub struct Act {
     pub first: usize,
     pub end: usize,
     pub precondition: pddl_form::Place,
     pub effect: pddl_form::Place,
+    pub needs: u64,
+    pub adds: u64,
+    pub dels: u64,
+    pub known: bool,
     pub place: pddl_form::Place,
 }
 
@@ -47,25 +53,42 @@ fn formula_end(text: &[u8], p: pddl_form::Place, negations: bool) -> pddl_form::
     f.place
 }
 
-// An action.
-pub fn action_at(text: &[u8], p: pddl_form::Place) -> Act
-    ensures { λ r. ⌜ Acts (now (text .entry)) p r ⌝ }
+// An action. Its facts are looked for among the names of the table and those from the offset `more`
+// on.
+pub fn action_at(text: &[u8], spans: &[usize], more: usize, p: pddl_form::Place) -> Act
+    requires { ⌜ Ready (now text) (now spans) ⌝ }
+    ensures { λ r. ⌜ Acts (now (text .entry)) p r
+        × Masked (now (text .entry)) (now (spans .entry)) more r ⌝ }
 {
     let a = pddl_form::expect(text, p, b"(:action");
     let name = pddl_form::name_at(text, a);
     let named = name.place;
     let b = pddl_form::expect(text, named, b":parameters():precondition");
-    let c = formula_end(text, b, false);
+    let needed = pddl_formula::formula_at(text, spans, more, b, false);
+    let c = needed.place;
     let d = pddl_form::expect(text, c, b":effect");
-    let e = formula_end(text, d, true);
+    let changed = pddl_formula::formula_at(text, spans, more, d, true);
+    let e = changed.place;
     let end = pddl_form::close_at(text, e);
     Act {
         first: name.first,
         end: name.end,
         precondition: b,
         effect: d,
+        needs: needed.adds,
+        adds: changed.adds,
+        dels: changed.dels,
+        known: needed.known & changed.known,
         place: end,
     }
+}
+
+// An action from an offset on, without a look at its facts.
+pub fn plain_action_at(text: &[u8], at: usize) -> Act
+    ensures { λ r. ⌜ Acts (now (text .entry)) (At at) r ⌝ }
+{
+    let none = [0; 1];
+    action_at(text, &none[..0], text.len(), pddl_form::Place::At(at))
 }
 
 // Behind as many actions as there are.
@@ -74,7 +97,7 @@ fn actions_from(text: &[u8], at: usize) -> pddl_form::Place
 {
     let mut i = at;
     loop {
-        let a = action_at(text, pddl_form::Place::At(i));
+        let a = plain_action_at(text, i);
         let behind = a.place;
         match behind {
             pddl_form::Place::At(n) => {
@@ -151,43 +174,4 @@ pub fn member_at(text: &[u8], at: usize) -> Member
     let behind = domain.place;
     let problem = problem_at(text, behind);
     Member { domain, problem }
-}
-
-// The number of members of a text; 0 of a text outside the subset.
-pub fn count(text: &[u8]) -> usize
-    ensures { λ r. ⌜ Counted (now (text .entry)) r ⌝ }
-{
-    let mut n = 0;
-    let mut i = 0;
-    loop {
-        let m = member_at(text, i);
-        let problem = m.problem;
-        let behind = problem.place;
-        match behind {
-            pddl_form::Place::At(next) => {
-                n += 1;
-                i = next;
-            }
-            pddl_form::Place::Outside => {
-                let t = pddl_token::next_token(text, i);
-                match t {
-                    pddl_token::Token::End => {
-                        return n;
-                    }
-                    pddl_token::Token::Open(k) => {
-                        return 0;
-                    }
-                    pddl_token::Token::Close(k) => {
-                        return 0;
-                    }
-                    pddl_token::Token::Word(s, e) => {
-                        return 0;
-                    }
-                    pddl_token::Token::Stray => {
-                        return 0;
-                    }
-                }
-            }
-        }
-    }
 }

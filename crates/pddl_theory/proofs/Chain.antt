@@ -1,7 +1,6 @@
 -- Readings one after the other.
 use mathlib.Core.Path.{_≡_, refl, sym, ap, _∙_}
 use mathlib.Core.List.{List, [], _∷_}
-use Prim.Native.Nat.{ℕ}
 use Rattle.semantics.specs.Pddl.{Token, Parsed, outside, parsed, _then_, many}
 use Rattle.pddl_theory.proofs.Shorter.{Reads}
 use Rattle.pddl_theory.proofs.Many.{Is, many-is, many-on, many-out}

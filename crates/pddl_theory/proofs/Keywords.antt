@@ -1,7 +1,6 @@
 -- The words of the grammar are spelled as their names say.
 use mathlib.Core.Path.{_≡_, refl}
-use mathlib.Core.List.{List, [], _∷_}
-use Prim.Native.Nat.{ℕ}
+use mathlib.Core.List.{[], _∷_}
 use Rattle.semantics.specs.Base.{numbersFrom}
 use Rattle.semantics.specs.Pddl.{and′, not′, define′, domain′, problem′, :predicates, :action, :parameters}
 use Rattle.semantics.specs.Pddl.{:precondition}

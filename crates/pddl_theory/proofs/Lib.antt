@@ -1,4 +1,5 @@
 -- Laws that belong to no one function.
+pub mod Appending
 pub mod Chain
 pub mod Keywords
 pub mod Many

@@ -1,11 +1,11 @@
 -- `many`: one turn of it, and its end.
-use mathlib.Core.Path.{_≡_, refl, sym, ap, subst, _∙_}
+use mathlib.Core.Path.{_≡_, refl, subst}
 use mathlib.Core.List.{List, [], _∷_}
 use Prim.Native.Nat.{ℕ, zero, suc, _≤_, _<_}
 use native.Mathlib.Omega.{arith}
 use native.Mathlib.Nat.{not-suc-le-zero}
 use lib.ListN.{length}
-use Rattle.semantics.specs.Pddl.{Token, Parsed, outside, parsed, _then_, _or_, manyIn, many}
+use Rattle.semantics.specs.Pddl.{Token, Parsed, outside, parsed, _then_, manyIn, many}
 use Rattle.pddl_theory.proofs.Shorter.{Fewer, Reads}
 
 -- a reading that is not outside

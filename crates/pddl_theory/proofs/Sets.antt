@@ -2,14 +2,12 @@
 use mathlib.Core.Path.{_≡_, refl, sym, ap, ap₂, _∙_}
 use mathlib.Core.Bool.{Bool, true, false, cond, not, _&&_, _||_, false≢true, or-assoc, and-assoc}
 use mathlib.Core.List.{List, [], _∷_, _++_}
-use Prim.Native.Nat.{ℕ, zero, suc, _*_, _/_, _^_, _≤_, _<_}
+use Prim.Native.Nat.{ℕ, zero, suc, _*_, _/_, _^_}
 use native.Mathlib.Nat.{pow-suc, pow-succ', div-one, div-self, mul-mod-left, mul-assoc, mul-comm, mul-zero, mul-one}
-use native.Mathlib.Nat.{lt-of-lt-of-le}
 use native.Mathlib.Omega.{arith}
-use lib.ListN.{length}
 use lib.Dec.{eqb}
-use lib.Pow.{pow-pos, pow-mono}
-use lib.Bits.{bitOr, or-lt}
+use lib.Pow.{pow-pos}
+use lib.Bits.{bitOr}
 use borrow.Author.Tests.{eqb-true, eq-eqb}
 use Rattle.semantics.specs.Base.{anyOf, allOf, collect}
 use Rattle.semantics.specs.Mask.{has}
@@ -43,6 +41,12 @@ sameNames-eq (v ∷ vs) [] h = absurd (false≢true h)
 sameNames-eq (v ∷ vs) (w ∷ ws) h =
     let r = and-elim (same v w) (sameNames vs ws) h in
     ap₂ (λ (z : List ℕ) (zs : List (List ℕ)). z ∷ zs) (same-eq v w (r .0)) (sameNames-eq vs ws (r .1))
+
+-- a list has each of its own names
+pub sameSet-refl : (ws : List (List ℕ)) → sameSet ws ws ≡ true
+sameSet-refl ws =
+    let h : allOf (isIn ws) ws ≡ true = true-all (isIn ws) ws (λ w m. true-any (same w) m (same-refl w)) in
+    and-intro h h
 
 -- ---- two lists, one after the other
 
@@ -102,23 +106,6 @@ bit-cons : (p : List ℕ) (P : List (List ℕ)) (w : List ℕ)
     → bitFrom 1 (p ∷ P) w ≡ cond (same w p) 1 (2 * bitFrom 1 P w)
 unfolding bitFrom
 bit-cons p P w = rw (bit-times 2 P w)
-
-bit-below : (P : List (List ℕ)) (w : List ℕ) → bitFrom 1 P w < 2 ^ length P
-unfolding bitFrom
-bit-below [] w = omega arith
-bit-below (p ∷ P) w = rw (bit-cons p P w) (at (same w p) (bitFrom 1 P w) (bit-below P w))
-  where
-    at : (b : Bool) (n : ℕ) → n < 2 ^ length P → cond b 1 (2 * n) < 2 ^ suc (length P)
-    at true n h = omega (arith, pow-suc 2 (length P))
-    at false n h = omega (arith, pow-suc 2 (length P))
-
-mask-below : (P xs : List (List ℕ)) → maskOf P xs < 2 ^ length P
-unfolding maskOf
-mask-below P [] = pow-pos (length P)
-mask-below P (x ∷ xs) = or-lt (length P) (bitFrom 1 P x) (maskOf P xs) (bit-below P x) (mask-below P xs)
-
-pub maskOf-below : (P xs : List (List ℕ)) → length P ≤ 64 → maskOf P xs < 2 ^ 64
-maskOf-below P xs h = lt-of-lt-of-le (mask-below P xs) (pow-mono h)
 
 -- the bit of a name among the predicates is a power of two
 bit-power : (P : List (List ℕ)) (w : List ℕ) → isIn P w ≡ true → (k : ℕ) × (bitFrom 1 P w ≡ 2 ^ k)

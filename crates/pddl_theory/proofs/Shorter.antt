@@ -1,13 +1,12 @@
 -- Every reader of the grammar leaves fewer tokens than it was given.
-use mathlib.Core.Path.{_≡_, refl, subst}
 use mathlib.Core.Bool.{Bool, true, false, cond}
-use mathlib.Core.List.{List, [], _∷_, flatten}
+use mathlib.Core.List.{List, [], _∷_}
 use Prim.Native.Nat.{ℕ, zero, suc, _≤_, _<_}
 use native.Mathlib.Omega.{arith}
 use lib.ListN.{length}
 use Rattle.semantics.specs.Pddl.{Token, opening, closing, word, stray, isName, sameToken}
 use Rattle.semantics.specs.Pddl.{Parsed, outside, parsed, _then_, _or_, manyIn, many, expect, name, atom}
-use Rattle.semantics.specs.Pddl.{Literal, negation, literal, formula, action, domain, problem, member}
+use Rattle.semantics.specs.Pddl.{negation, literal, formula, action, domain, problem, member}
 
 -- fewer than n tokens are left
 abbrev pub Fewer : {A : Type 0} → ℕ → Parsed A → Type 0

@@ -212,6 +212,3 @@ members-few text = items-few member member-shorter text 0
 module _ (text : List ℕ) (at : ℕ) where
   pub atoms-few : length (items (many atom (rest text at))) ≤ length text
   atoms-few = items-few atom atom-shorter text at
-
-  pub acts-few : length (items (many action (rest text at))) ≤ length text
-  acts-few = items-few action action-shorter text at

@@ -1,7 +1,7 @@
 -- Loops over a list that is read from an offset on, `from at`: what is asked of the whole is asked of the list from i
 -- on.
 use mathlib.Core.Path.{_≡_, refl, sym, ap, _∙_}
-use mathlib.Core.Bool.{Bool, true, false}
+use mathlib.Core.Bool.{Bool, true, false, _&&_, and-true, and-assoc}
 use mathlib.Core.List.{List, [], _∷_}
 use Prim.Native.Nat.{ℕ, suc, _+_, _≤_}
 use native.Mathlib.Omega.{arith}
@@ -80,6 +80,25 @@ module _ {A : Type 0} where
       pub all-end : from i ≡ [] → true ≡ allOf p (from at)
       unfolding allOf
       all-end e = asked-end g e
+
+-- ---- do all, where b is the answer for those before i
+
+module _ {A : Type 0} (p : A → Bool) where
+  pub record Held (from : ℕ → List A) (at : ℕ) (b : Bool) (i : ℕ) : Type 0 where
+    pub whole : allOf p (from at) ≡ (b && allOf p (from i))
+
+  pub held-begin : (from : ℕ → List A) (at : ℕ) → Held from at true at
+  held-begin from at = record { whole = refl }
+
+  module _ {from : ℕ → List A} {at : ℕ} {b : Bool} {i : ℕ} (g : Held from at b i) where
+    pub held-on : {a : A} (n : ℕ) → from i ≡ a ∷ from n → (c : Bool) → c ≡ p a → Held from at (b && c) n
+    unfolding allOf
+    held-on n next c is =
+        record { whole = g .whole ∙ rw (next, ← is) (sym (and-assoc b c (allOf p (from n)))) }
+
+    pub held-end : from i ≡ [] → b ≡ allOf p (from at)
+    unfolding allOf
+    held-end e = sym (g .whole ∙ rw e (and-true b))
 
 -- ---- does no name stand twice
 

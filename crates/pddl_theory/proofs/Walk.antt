@@ -1,14 +1,13 @@
 -- Loops over a list of a text: from offset i on the same is left as from the first on, and the list is those before i
 -- and those from i on.
-use mathlib.Core.Path.{_≡_, refl, sym, ap, _∙_}
-use mathlib.Core.List.{List, [], _∷_}
-use Prim.Native.Nat.{ℕ, _+_, _≤_, _<_}
+use mathlib.Core.Path.{_≡_, refl, _∙_}
+use mathlib.Core.List.{List}
+use Prim.Native.Nat.{ℕ, _≤_, _<_}
 use native.Mathlib.Omega.{arith}
-use lib.ListN.{length}
 use Rattle.semantics.specs.Pddl.{Token, Parsed, outside, parsed, many}
-use Rattle.pddl_theory.specs.Inner.Place.{rest, leaves, items}
+use Rattle.pddl_theory.specs.Inner.Place.{rest, leaves}
 use Rattle.pddl_theory.proofs.Shorter.{Reads}
-use Rattle.pddl_theory.proofs.Chain.{items-on, items-out, leaves-on, leaves-out}
+use Rattle.pddl_theory.proofs.Chain.{leaves-on, leaves-out}
 
 module _ {A : Type 0} (one : List Token → Parsed A) (reads : Reads one) (text : List ℕ) (at : ℕ) where
   pub record Walked (i : ℕ) : Type 0 where

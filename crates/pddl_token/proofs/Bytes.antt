@@ -1,39 +1,33 @@
 -- What a byte adds to the tokens, between tokens, in a comment and in a word. Assumes nothing.
 use mathlib.Core.Path.{_≡_, refl}
-use mathlib.Core.Bool.{Bool, true, false, not, _&&_, _||_}
+use mathlib.Core.Bool.{true, false, _||_}
 use mathlib.Core.Logic.{⊎-elim}
 use mathlib.Core.List.{List, [], _∷_, _++_}
 use Prim.Native.Nat.{ℕ}
 use lib.Dec.{eqb}
 use borrow.Author.Tests.{eqb-true}
-use Rattle.theory.proofs.Lists.{bool-cases, or-elim}
-use Rattle.semantics.specs.Pddl.{opening, closing, word, stray, Where, outer, comment, inner}
+use Rattle.theory.proofs.Lists.{or-elim}
+use Rattle.semantics.specs.Pddl.{opening, closing, word, stray, outer, comment, inner}
 use Rattle.semantics.specs.Pddl.{small, inWord, isBlank, tokensFrom}
 
--- where a text is read on when no word was begun
-abbrev pub mode : Bool → Where
-mode true = comment
-mode false = outer
-
--- whether a comment goes on behind a byte that is passed over
-abbrev pub noted : Bool → ℕ → Bool
-noted c b = (c || eqb b 59) && not (eqb b 10)
-
 module _ (bs : List ℕ) where
-  comment-on : (b : ℕ) → tokensFrom comment (b ∷ bs) ≡ tokensFrom (mode (not (eqb b 10))) bs
+  -- a comment goes on, and ends at LF
+  pub comment-on : (b : ℕ) → eqb b 10 ≡ false → tokensFrom comment (b ∷ bs) ≡ tokensFrom comment bs
   unfolding tokensFrom
-  comment-on b = ⊎-elim
-      (λ (e : eqb b 10 ≡ true). rw e)
-      (λ (e : eqb b 10 ≡ false). rw e)
-      (bool-cases (eqb b 10))
+  comment-on b e = rw e
 
+  pub comment-ends : tokensFrom comment (10 ∷ bs) ≡ tokensFrom outer (10 ∷ bs)
+  unfolding tokensFrom inWord isBlank
+  comment-ends = refl
+
+  -- a byte that no token has is passed over
   abbrev Passes : ℕ → Type 0
-  Passes b = tokensFrom outer (b ∷ bs) ≡ tokensFrom (mode (noted false b)) bs
+  Passes b = tokensFrom outer (b ∷ bs) ≡ tokensFrom outer bs
 
   passes-at : (n : ℕ) → Passes n → (b : ℕ) → eqb b n ≡ true → Passes b
   passes-at n p b e = let f : b ≡ n = eqb-true b n e in rw f p
 
-  blank-on : (b : ℕ) → isBlank b ≡ true → Passes b
+  pub blank-on : (b : ℕ) → isBlank b ≡ true → Passes b
   unfolding tokensFrom inWord isBlank
   blank-on b h =
       ⊎-elim (λ e. ⊎-elim (λ e. ⊎-elim
@@ -42,15 +36,10 @@ module _ (bs : List ℕ) where
       (passes-at 13 refl b) (or-elim (eqb b 32 || eqb b 9) (eqb b 13) e))
       (passes-at 10 refl b) (or-elim (eqb b 32 || eqb b 9 || eqb b 13) (eqb b 10) h)
 
-  note-on : (b : ℕ) → eqb b 59 ≡ true → Passes b
+  -- a comment begins
+  pub comment-begins : tokensFrom outer (59 ∷ bs) ≡ tokensFrom comment bs
   unfolding tokensFrom inWord isBlank
-  note-on b e = passes-at 59 refl b e
-
-  -- a byte of a comment or of no token is passed over
-  pub passes : (c : Bool) (b : ℕ) → c || isBlank b || eqb b 59 ≡ true
-      → tokensFrom (mode c) (b ∷ bs) ≡ tokensFrom (mode (noted c b)) bs
-  passes true b h = comment-on b
-  passes false b h = ⊎-elim (blank-on b) (note-on b) (or-elim (isBlank b) (eqb b 59) h)
+  comment-begins = refl
 
   pub first-opening : tokensFrom outer (40 ∷ bs) ≡ opening ∷ tokensFrom outer bs
   unfolding tokensFrom inWord isBlank
@@ -81,10 +70,13 @@ module _ (bs : List ℕ) where
     word-ends w h = rw h
 
 -- the text's end
-pub end-none : (c : Bool) → tokensFrom (mode c) [] ≡ []
+pub end-none : tokensFrom outer [] ≡ []
 unfolding tokensFrom
-end-none true = refl
-end-none false = refl
+end-none = refl
+
+pub end-comment : tokensFrom comment [] ≡ tokensFrom outer []
+unfolding tokensFrom
+end-comment = refl
 
 pub end-word : (w : List ℕ) → tokensFrom (inner w) [] ≡ word w ∷ tokensFrom outer []
 unfolding tokensFrom

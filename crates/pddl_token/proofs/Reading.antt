@@ -1,21 +1,20 @@
 -- The loops' invariants: from where a loop stands the same tokens are read as from where it began. Assumes nothing.
 use mathlib.Core.Path.{_≡_, refl, sym, _∙_}
-use mathlib.Core.Bool.{Bool, true, false, _||_}
+use mathlib.Core.Bool.{Bool, true, false}
 use mathlib.Core.List.{List, [], _∷_, _++_, map-append}
-use Prim.Native.Nat.{ℕ, _+_, _≤_, _<_}
+use Prim.Native.Nat.{ℕ, _+_, _-_, _≤_, _<_}
 use native.Mathlib.Numerals.{add-one}
 use native.Mathlib.Omega.{arith}
-use lib.Dec.{eqb}
 use lib.ListN.{length, take, drop, getD, drop-of-length-le}
 use lib.Seq.{slice-empty, drop-cons, take-suc, drop-append-le, length-take-le}
 use borrow.Author.Tests.{ne-eqb}
-use Rattle.theory.proofs.Lists.{or-false-elim}
-use Rattle.semantics.specs.Pddl.{small, inWord, isBlank, Where, outer, inner, tokensFrom}
+use Rattle.semantics.specs.Pddl.{small, inWord, isBlank, Where, outer, comment, inner, tokensFrom}
 use Rattle.pddl_theory.specs.Inner.Place.{rest, span}
-use Rattle.pddl_token.specs.Inner.Next.{Skipped, WordEnd, Next}
+use Rattle.pddl_token.specs.Inner.Next.{LineEnd, Skipped, WordEnd, Next}
 use Rattle.pddl_token.specs.declared.Token.the-variants.{Open, Close, Word, End, Stray}
-use Rattle.pddl_token.proofs.Bytes.{mode, noted, passes, first-opening, first-closing, first-stray}
-use Rattle.pddl_token.proofs.Bytes.{first-in-word, word-goes-on, word-ends, end-none, end-word}
+use Rattle.pddl_token.proofs.Bytes.{comment-on, comment-ends, blank-on, comment-begins}
+use Rattle.pddl_token.proofs.Bytes.{first-opening, first-closing, first-stray, first-in-word}
+use Rattle.pddl_token.proofs.Bytes.{word-goes-on, word-ends, end-none, end-comment, end-word}
 
 -- the tokens from an offset within the text on, by its byte
 pub byte-first : (p : Where) (text : List ℕ) (i : ℕ) → i < length text
@@ -24,50 +23,93 @@ byte-first p text i h = rw (add-one, drop-cons text i 0 h)
 
 -- at the text's end no token is left
 pub rest-end : (text : List ℕ) (at : ℕ) → length text ≤ at → rest text at ≡ []
-rest-end text at h = rw (drop-of-length-le text h) (end-none false)
+rest-end text at h = rw (drop-of-length-le text h) end-none
 
--- ---- blanks and comments
+-- ---- comments
 
-pub record Skipping (text : List ℕ) (at : ℕ) (c : Bool) (i : ℕ) : Type 0 where
+pub record Noting (text : List ℕ) (at i : ℕ) : Type 0 where
   pub low : at ≤ i
   pub high : i ≤ length text
-  pub same : rest text at ≡ tokensFrom (mode c) (drop i text)
+  pub same : tokensFrom comment (drop at text) ≡ tokensFrom comment (drop i text)
 
-pub skip-begin : (text : List ℕ) (at : ℕ) → at ≤ length text → Skipping text at false at
-skip-begin text at h = record { low = omega arith; high = h; same = refl }
+pub note-begin : (text : List ℕ) (at : ℕ) → at ≤ length text → Noting text at at
+note-begin text at h = record { low = omega arith; high = h; same = refl }
 
-module _ {text : List ℕ} {at : ℕ} {c : Bool} {i : ℕ} (s : Skipping text at c i) where
-  module _ (h : i < length text) (t : Bool) (is : t ≡ isBlank (getD text i 0)) where
-    pub skip-onward : (c || t) || eqb (getD text i 0) 59 ≡ true → Skipping text at (noted c (getD text i 0)) (i + 1)
-    skip-onward e =
+module _ {text : List ℕ} {at i : ℕ} (s : Noting text at i) where
+  module _ (h : i < length text) where
+    pub note-onward : (getD text i 0 ≡ 10 → ⊥) → Noting text at (i + 1)
+    note-onward n =
         record {
           low = omega (arith, s .low);
           high = omega arith;
           same =
-              s .same ∙ byte-first (mode c) text i h
-              ∙ passes (drop (i + 1) text) c (getD text i 0) (rw is at e);
+              s .same ∙ byte-first comment text i h
+              ∙ comment-on (drop (i + 1) text) (getD text i 0) (ne-eqb (getD text i 0) 10 n);
         }
 
-    pub skip-out : (c || t) || eqb (getD text i 0) 59 ≡ false → Skipped text at i
-    skip-out e =
-        let f = or-false-elim (c || t) (eqb (getD text i 0) 59) e in
-        let g = or-false-elim c t (f .0) in
-        let o : c ≡ false = g .0 in
+    pub note-out : getD text i 0 ≡ 10 → LineEnd text at i
+    note-out e =
+        let bs : List ℕ = getD text i 0 ∷ drop (i + 1) text in
+        let f : tokensFrom comment bs ≡ tokensFrom outer bs = rw e (comment-ends (drop (i + 1) text)) in
         record {
           low = s .low;
           high = s .high;
-          same = rw o at (s .same);
-          no-blank = λ _. sym is ∙ g .1;
-          no-comment = λ _. f .1;
+          same = s .same ∙ byte-first comment text i h ∙ f ∙ sym (byte-first outer text i h);
         }
+
+  pub note-end : length text ≤ i → LineEnd text at i
+  note-end h =
+      record { low = s .low; high = s .high; same = s .same ∙ rw (drop-of-length-le text h) end-comment }
+
+-- ---- blanks and comments
+
+pub record Skipping (text : List ℕ) (at i : ℕ) : Type 0 where
+  pub low : at ≤ i
+  pub high : i ≤ length text
+  pub same : rest text at ≡ rest text i
+
+pub skip-begin : (text : List ℕ) (at : ℕ) → at ≤ length text → Skipping text at at
+skip-begin text at h = record { low = omega arith; high = h; same = refl }
+
+module _ {text : List ℕ} {at i : ℕ} (s : Skipping text at i) where
+  module _ (h : i < length text) where
+    pub skip-note : getD text i 0 ≡ 59 → (n : ℕ) → LineEnd text (i + 1) n → Skipping text at n
+    skip-note e n l =
+        record {
+          low = omega (arith, s .low, l .low);
+          high = l .high;
+          same = s .same ∙ byte-first outer text i h ∙ rw e (comment-begins (drop (i + 1) text)) ∙ l .same;
+        }
+
+    pub skip-less : (n : ℕ) → LineEnd text (i + 1) n → length text - n < length text - i
+    skip-less n l = omega (arith, l .low)
+
+    module _ (t : Bool) (is : t ≡ isBlank (getD text i 0)) where
+      pub skip-blank : t ≡ true → Skipping text at (i + 1)
+      skip-blank e =
+          record {
+            low = omega (arith, s .low);
+            high = omega arith;
+            same =
+                s .same ∙ byte-first outer text i h ∙ blank-on (drop (i + 1) text) (getD text i 0) (sym is ∙ e);
+          }
+
+      pub skip-out : (getD text i 0 ≡ 59 → ⊥) → t ≡ false → Skipped text at i
+      skip-out n e =
+          record {
+            low = s .low;
+            high = s .high;
+            same = s .same;
+            no-blank = λ _. sym is ∙ e;
+            no-comment = λ _. ne-eqb (getD text i 0) 59 n;
+          }
 
   pub skip-end : length text ≤ i → Skipped text at i
   skip-end h =
-      let e : tokensFrom (mode c) (drop i text) ≡ [] = rw (drop-of-length-le text h) (end-none c) in
       record {
         low = s .low;
         high = s .high;
-        same = s .same ∙ e ∙ sym (rest-end text i h);
+        same = s .same;
         no-blank = λ l. absurd (omega (arith, l));
         no-comment = λ l. absurd (omega (arith, l));
       }

@@ -3,7 +3,7 @@ ghost use mathlib.Core.Path.{_≡_};
 ghost use Prim.Native.Nat.{_≤_};
 ghost use lib.ListN.{length};
 ghost use Rattle.semantics.specs.Pddl.{inWord, isBlank};
-ghost use Rattle.pddl_token.specs.Inner.Next.{Skipped, WordEnd, Next};
+ghost use Rattle.pddl_token.specs.Inner.Next.{LineEnd, Skipped, WordEnd, Next};
 
 // A token: a parenthesis with the offset behind it; a word with its first offset and the one behind
 // it; the text's end; a byte that no token has.
@@ -32,20 +32,38 @@ fn blank(b: u8) -> bool
     (b == b' ') | (b == b'\t') | (b == b'\r') | (b == b'\n')
 }
 
+// The offset of the next LF from `at` on, or the text's end.
+fn line_end(text: &[u8], at: usize) -> usize
+    requires { ⌜ at ≤ length (now text) ⌝ }
+    ensures { λ r. ⌜ LineEnd (now (text .entry)) at r ⌝ }
+{
+    let mut i = at;
+    while i < text.len() {
+        if text[i] == b'\n' {
+            return i;
+        } else {
+            i += 1;
+        }
+    }
+    i
+}
+
 // The first offset from `at` on that is in no blank and no comment, or the text's end.
 fn skip(text: &[u8], at: usize) -> usize
     requires { ⌜ at ≤ length (now text) ⌝ }
     ensures { λ r. ⌜ Skipped (now (text .entry)) at r ⌝ }
 {
-    let mut comment = false;
     let mut i = at;
     while i < text.len() {
         let b = text[i];
-        if comment | blank(b) | (b == b';') {
-            comment = (comment | (b == b';')) & (b != b'\n');
-            i += 1;
+        if b == b';' {
+            i = line_end(text, i + 1);
         } else {
-            return i;
+            if blank(b) {
+                i += 1;
+            } else {
+                return i;
+            }
         }
     }
     i

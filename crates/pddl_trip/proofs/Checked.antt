@@ -12,7 +12,6 @@ use Rattle.semantics.specs.Task.{rowWidth, word, facts, members, actions, initi
 use Rattle.semantics.specs.Task.{between, headFits, goalRow, actionRow, check}
 use Rattle.theory.proofs.Lists.{and-elim}
 use Rattle.theory.proofs.Refusals.{else-both, if-not-true, upTo-refusal}
-use Rattle.theory.proofs.Accepted.{accepted}
 
 -- ---- what the check has said of the task
 

@@ -1,6 +1,6 @@
 -- Masks of the facts that are written, and names that are told apart. Assumes nothing.
 use mathlib.Core.Path.{_≡_, refl, sym, ap, ap₂, _∙_}
-use mathlib.Core.Bool.{Bool, true, false, _||_, false≢true}
+use mathlib.Core.Bool.{Bool, true, false, _||_}
 use mathlib.Core.Logic.{_⊎_, inl, inr, ⊎-elim}
 use mathlib.Core.List.{List, [], _∷_, map, List·Memᴰ, List·Memᴰ·head, List·Memᴰ·tail}
 use Prim.Native.Nat.{ℕ, zero, suc, _+_, _*_, _/_, _%_, _^_, _≤_, _<_}
@@ -14,10 +14,11 @@ use Rattle.semantics.specs.Mask.{has, below}
 use Rattle.semantics.specs.Text.{number, digits}
 use Rattle.semantics.specs.Pddl.{same, bitFrom, maskOf}
 use Rattle.semantics.specs.PddlWrite.{standing}
-use Rattle.theory.proofs.Lists.{bool-cases, test-ext, true-not-false, not-true-false, and-elim, and-intro, lt-or-ge}
+use Rattle.theory.proofs.Lists.{bool-cases, test-ext, true-not-false, not-true-false, and-elim, lt-or-ge}
 use Rattle.theory.proofs.Lists.{true-any, any-true, filter-mem, mem-filter, upTo-mem, mem-upTo}
 use Rattle.theory.proofs.Masks.{has-suc, or-has, zero-has, mask-ext, below-has}
 use Rattle.text.proofs.RoundTrip.{word-number}
+use Rattle.pddl_theory.proofs.Sets.{same-refl, same-eq}
 use Rattle.pddl_trip.proofs.Lexed.{factName}
 
 -- ---- one fact
@@ -75,21 +76,7 @@ standing-mask F x h = mask-ext (maskFrom (standing F x)) x λ g. list-has (stand
         (⊎-elim (λ (l : g < F). l) (λ (l : F ≤ g). absurd (true-not-false e (below-has F x h g l))) (lt-or-ge g F))) e)
         (eq-eqb g g refl))
 
--- ---- words are the same where they are equal
-
-pub same-refl : (w : List ℕ) → same w w ≡ true
-unfolding same
-same-refl [] = refl
-same-refl (x ∷ xs) = and-intro (eq-eqb x x refl) (same-refl xs)
-
-pub same-eq : (v w : List ℕ) → same v w ≡ true → v ≡ w
-unfolding same
-same-eq [] [] h = refl
-same-eq [] (y ∷ ys) h = absurd (false≢true h)
-same-eq (x ∷ xs) [] h = absurd (false≢true h)
-same-eq (x ∷ xs) (y ∷ ys) h =
-    let r = and-elim (eqb x y) (same xs ys) h in
-    ap₂ (λ (a : ℕ) (l : List ℕ). a ∷ l) (eqb-true x y (r .0)) (same-eq xs ys (r .1))
+-- ---- names
 
 -- digits tell numbers apart
 pub digits-apart : (x y : ℕ) → x < 2 ^ 64 → y < 2 ^ 64 → digits x ≡ digits y → x ≡ y

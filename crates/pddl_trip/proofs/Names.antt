@@ -11,15 +11,16 @@ use Rattle.semantics.specs.Base.{numbersFrom, upTo, anyOf, allOf}
 use Rattle.semantics.specs.Task.{facts, members, actions, initial, goal, pre, add, del, check}
 use Rattle.semantics.specs.Text.{digits}
 use Rattle.semantics.specs.Pddl.{same, isIn, noneTwice, Member, predicatesOf, initiallyOf, actionsOf, known}
-use Rattle.semantics.specs.Pddl.{knownAction, sameNames, sameSet, wellNamed, waitsKnown, named, inLimits}
+use Rattle.semantics.specs.Pddl.{knownAction, sameNames, wellNamed, waitsKnown, named, inLimits}
 use Rattle.semantics.specs.PddlWrite.{own, order}
-use Rattle.theory.proofs.Lists.{and-intro, or-left, or-right, lt-or-ge, true-any, true-all, upTo-length}
+use Rattle.theory.proofs.Lists.{and-intro, or-left, or-right, lt-or-ge, upTo-length}
 use Rattle.theory.proofs.Accepted.{accepted}
 use Rattle.text.proofs.Lists.{all-both}
 use Rattle.pddl_theory.proofs.RegroupedWords.{order-length}
 use Rattle.pddl_trip.proofs.Lexed.{factName, actionName, memberName, factsIn}
 use Rattle.pddl_trip.proofs.Grammar.{holds, lacks, actionOf, actionsFrom, memberOf, membersFrom}
-use Rattle.pddl_trip.proofs.Masks.{same-refl, names-apart, standing-below}
+use Rattle.pddl_theory.proofs.Sets.{same-refl, sameSet-refl}
+use Rattle.pddl_trip.proofs.Masks.{names-apart, standing-below}
 use Rattle.pddl_trip.proofs.Waits.{waitWords, waits-known}
 
 -- ---- names with numbers
@@ -69,11 +70,6 @@ unfolding sameNames
 same-names [] = refl
 same-names (w ∷ ws) = and-intro (same-refl w) (same-names ws)
 
-same-set : (ws : List (List ℕ)) → sameSet ws ws ≡ true
-same-set ws =
-    let h : allOf (isIn ws) ws ≡ true = true-all (isIn ws) ws (λ w m. true-any (same w) m (same-refl w)) in
-    and-intro h h
-
 -- ---- one member
 
 module _ (t : List ℕ) where
@@ -118,7 +114,7 @@ module _ (t : List ℕ) where
       (known-actions k (own t i)))
       (same-refl (memberName i)))
       (all-map (isIn predicates) factName (factsIn t (initial t)) (fact-in (initial t))))
-      (same-set initially))
+      (sameSet-refl initially))
       (known-holds (goal t i))
 
   members-named : (k : ℕ) (is : List ℕ) → k + length (flatten (map (own t) is)) ≤ 2 ^ 64

@@ -6,8 +6,7 @@ use native.Mathlib.Omega.{arith}
 use lib.ListN.{length, getD, take, drop}
 use lib.Seq.{drop-cons, take-add, drop-drop}
 use Rattle.semantics.specs.Base.{numbersFrom}
-use Rattle.semantics.specs.Task.{rowWidth, word, check}
-use Rattle.semantics.specs.PddlWrite.{grouped}
+use Rattle.semantics.specs.Task.{rowWidth, word}
 
 -- ---- rows of a list
 

@@ -2,4 +2,5 @@
 pub mod Filling
 pub mod Next
 pub mod Parts
+pub mod Pass
 pub mod Waits

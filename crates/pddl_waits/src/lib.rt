@@ -1,15 +1,12 @@
 // The waits of a law in PDDL: records of an action's number and a fact's, any number of them, read
 // one after the other.
 ghost use mathlib.Core.Path.{_≡_};
-ghost use mathlib.Core.Bool.{true};
-ghost use mathlib.Core.List.{map};
-ghost use Prim.Native.Nat.{_^_, _≤_, _<_};
+ghost use Prim.Native.Nat.{_^_, _≤_, _<_, max};
 ghost use lib.ListN.{length};
 ghost use lib.Bits.{bitOr};
-ghost use Rattle.semantics.specs.Base.{allOf, upTo, zeroed};
-ghost use Rattle.semantics.specs.Text.{records, isRecord, textWords};
-ghost use Rattle.semantics.specs.Pddl.{waitsKnown, waitMask};
+ghost use Rattle.semantics.specs.Base.{zeroed};
 ghost use Rattle.pddl_waits.specs.Inner.Wait.{waitMeans};
+ghost use Rattle.pddl_waits.specs.Inner.Waits.{AddedIn, WaitsIn, withinOf};
 use text::Last;
 use text::Turn;
 
@@ -22,6 +19,15 @@ enum Wait {
     For(u64, u64, usize),
     End,
     Bad,
+}
+
+// What the waits are: records of two numbers or not; whether there is one; the greatest number of
+// an action and of a fact in them.
+pub struct Reading {
+    pub good: bool,
+    pub some: bool,
+    pub action: u64,
+    pub fact: u64,
 }
 
 // The record at an offset where one begins.
@@ -62,52 +68,6 @@ fn next_wait(waits: &[u8], from: usize) -> Wait
     }
 }
 
-// Each record has two numbers.
-pub fn well_formed(waits: &[u8]) -> bool
-    ensures { λ r. ⌜ r ≡ allOf (isRecord 2) (records (now (waits .entry))) ⌝ }
-{
-    let mut i = 0;
-    loop {
-        let next = next_wait(waits, i);
-        match next {
-            Wait::For(_, _, j) => {
-                i = j;
-            }
-            Wait::End => {
-                return true;
-            }
-            Wait::Bad => {
-                return false;
-            }
-        }
-    }
-}
-
-// Each action's number is below `actions`, each fact's below `facts`.
-pub fn known(waits: &[u8], actions: usize, facts: usize) -> bool
-    requires { ⌜ allOf (isRecord 2) (records (now waits)) ≡ true ⌝ }
-    ensures { λ r. ⌜ r ≡ waitsKnown actions facts (textWords (now (waits .entry))) ⌝ }
-{
-    let mut i = 0;
-    loop {
-        let next = next_wait(waits, i);
-        match next {
-            Wait::For(a, f, j) => {
-                if a >= actions as u64 {
-                    return false;
-                }
-                if f >= facts as u64 {
-                    return false;
-                }
-                i = j;
-            }
-            _ => {
-                return true;
-            }
-        }
-    }
-}
-
 // The mask with one fact more.
 fn with_fact(mask: u64, fact: u64) -> u64
     requires { ⌜ fact < 64 ⌝ }
@@ -116,27 +76,73 @@ fn with_fact(mask: u64, fact: u64) -> u64
     mask | (1 << fact)
 }
 
-// The facts for which each action waits: a mask for each, all zeros before.
-pub fn masks(waits: &[u8], table: &mut [u64])
-    requires { ⌜ allOf (isRecord 2) (records (now waits)) ≡ true ⌝ }
-    requires { ⌜ waitsKnown (length (now table)) 64 (textWords (now waits)) ≡ true ⌝ }
-    requires { ⌜ now table ≡ zeroed (now table) ⌝ }
-    ensures { λ _. ⌜ now (table .exit)
-        ≡ map (λ a. waitMask a (textWords (now (waits .entry))))
-        (upTo (length (now (table .entry)))) ⌝ }
+// One fact more for which an action waits, if the table has the action and the fact is below 64.
+fn add(table: &mut [u64], action: u64, fact: u64)
+    ensures { λ _. ⌜ AddedIn (now (table .entry)) action fact (now (table .exit)) ⌝ }
 {
+    if action < table.len() as u64 {
+        if fact < 64 {
+            let k = action as usize;
+            table[k] = with_fact(table[k], fact);
+        }
+    }
+}
+
+// The greater of two numbers.
+fn greater(a: u64, b: u64) -> u64
+    ensures { λ r. ⌜ r ≡ max a b ⌝ }
+{
+    if a < b { b } else { a }
+}
+
+// All waits in one pass. The facts for which each of the first actions waits go into the table, a
+// mask for each, all zeros before; what a wait beyond the table, or for a fact from 64 on, leaves
+// in it is not told.
+pub fn read(waits: &[u8], table: &mut [u64]) -> Reading
+    requires { ⌜ now table ≡ zeroed (now table) ⌝ }
+    ensures { λ r. ⌜ WaitsIn (now (waits .entry)) (now (table .exit)) r ⌝ }
+{
+    let mut some = false;
+    let mut action = 0;
+    let mut fact = 0;
     let mut i = 0;
     loop {
         let next = next_wait(waits, i);
         match next {
             Wait::For(a, f, j) => {
-                let k = a as usize;
-                table[k] = with_fact(table[k], f);
+                add(table, a, f);
+                some = true;
+                action = greater(action, a);
+                fact = greater(fact, f);
                 i = j;
             }
-            _ => {
-                return;
+            Wait::End => {
+                return Reading {
+                    good: true,
+                    some,
+                    action,
+                    fact,
+                };
+            }
+            Wait::Bad => {
+                return Reading {
+                    good: false,
+                    some,
+                    action,
+                    fact,
+                };
             }
         }
+    }
+}
+
+// Is each action's number below `actions`, each fact's below `facts`?
+pub fn within(w: Reading, actions: usize, facts: usize) -> bool
+    ensures { λ r. ⌜ r ≡ withinOf w actions facts ⌝ }
+{
+    if w.some {
+        (w.action < actions as u64) & (w.fact < facts as u64)
+    } else {
+        true
     }
 }

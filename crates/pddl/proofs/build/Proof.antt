@@ -1,41 +1,28 @@
 -- `pddl::build` meets its contract.
-use mathlib.Core.Path.{refl}
 use native.Mathlib.Omega.{arith}
 use borrow.Author.Needs.{needs}
 use Rattle.pddl.proofs.Stages.{front-length}
-use Rattle.pddl.proofs.Building.{waits-known, room-goals, room-actions, room-masks, built-in}
+use Rattle.pddl.proofs.Building.{built-of}
 use Rattle.pddl.proofs.build.Statement.{statement}
 use Rattle.pddl.proofs.build.Tie as tie
-
-slice-aggregate-masks : tie.Need-slice-aggregate-masks
-slice-aggregate-masks c = search needs
-
-masks-requires : tie.Need-masks-requires
-masks-requires c κs = search (needs, waits-known)
 
 put-row-requires : tie.Need-put-row-requires
 put-row-requires c κs = search needs
 
-put-goals-requires : tie.Need-put-goals-requires
-put-goals-requires c κs = search needs
+mul-first : tie.Need-mul-first
+mul-first c = search needs
 
-mul-from : tie.Need-mul-from
-mul-from c = search needs
+store-requires : tie.Need-store-requires
+store-requires c κs = search needs
 
 add-from : tie.Need-add-from
 add-from c = search needs
 
-slice-aggregate-put-actions : tie.Need-slice-aggregate-put-actions
-slice-aggregate-put-actions c = search needs
+mul-words : tie.Need-mul-words
+mul-words c = search needs
 
-put-actions-requires : tie.Need-put-actions-requires
-put-actions-requires c κs =
-    let s : tie.Start = search in
-    let x = s .pre .0 in
-    (x .ready, (room-actions x _ _ (omega arith) refl, omega (arith, room-masks x)))
-
-mul-end : tie.Need-mul-end
-mul-end c = search needs
+store-requires-2 : tie.Need-store-requires-2
+store-requires-2 c κs = search needs
 
 add-end : tie.Need-add-end
 add-end c = search needs
@@ -46,8 +33,7 @@ slice-reshare-prefix-check c = search needs
 slice-aggregate-check : tie.Need-slice-aggregate-check
 slice-aggregate-check c =
     let s : tie.Start = search in
-    let x = s .pre .0 in
-    front-length _ _ (omega (arith, x .few-members, x .few-actions))
+    front-length _ _ (omega (arith, s .pre .0 .0, s .pre .0 .1))
 
 check-requires : tie.Need-check-requires
 check-requires c κs = search needs
@@ -56,21 +42,18 @@ same-length : tie.Need-same-length
 same-length c = search needs
 
 returns : tie.Need-returns
-returns c = search (needs, built-in)
+returns c = search (needs, built-of)
 
 pub build-spec : {M : Type 1} → statement M
 build-spec =
     tie.close
     (tie.spec
-    slice-aggregate-masks
-    masks-requires
     put-row-requires
-    put-goals-requires
-    mul-from
+    mul-first
+    store-requires
     add-from
-    slice-aggregate-put-actions
-    put-actions-requires
-    mul-end
+    mul-words
+    store-requires-2
     add-end
     slice-reshare-prefix-check
     slice-aggregate-check

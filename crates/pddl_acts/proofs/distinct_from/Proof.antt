@@ -20,8 +20,8 @@ abbrev μ-loop : tie.MeasureT-loop
 loop-holds : tie.Need-loop-holds Inv-loop μ-loop
 loop-holds c = search asked-begin
 
-action-at-requires : tie.Need-action-at-requires Inv-loop μ-loop
-action-at-requires c κs = search needs
+plain-action-at-requires : tie.Need-plain-action-at-requires Inv-loop μ-loop
+plain-action-at-requires c κs = search needs
 
 enum-known-behind : tie.Need-enum-known-behind Inv-loop μ-loop
 enum-known-behind c = search needs
@@ -35,8 +35,8 @@ returns c = search (needs, distinct-not)
 loop-less : tie.Need-loop-less Inv-loop μ-loop
 loop-less c =
     let b : tie.After-behind Inv-loop μ-loop = search in
-    let a : tie.After-action-at Inv-loop μ-loop = search in
-    omega (arith, action-onward (a .action-at .ensures) _ (b .behind .given .1))
+    let a : tie.After-plain-action-at Inv-loop μ-loop = search in
+    omega (arith, action-onward (a .plain-action-at .ensures) _ (b .behind .given .1))
 
 loop-again : tie.Need-loop-again Inv-loop μ-loop
 loop-again c = search (needs, distinct-on)
@@ -54,7 +54,7 @@ distinct-from-spec =
     Inv-loop
     μ-loop
     loop-holds
-    action-at-requires
+    plain-action-at-requires
     enum-known-behind
     called-requires
     returns

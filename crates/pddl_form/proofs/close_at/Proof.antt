@@ -1,6 +1,6 @@
 -- `pddl_form::close_at` meets its contract.
 use borrow.Author.Needs.{needs}
-use Rattle.pddl_form.proofs.Tokens.{closes, closes-out}
+use Rattle.pddl_form.proofs.Tokens.{closes}
 use Rattle.pddl_form.proofs.close_at.Statement.{statement}
 use Rattle.pddl_form.proofs.close_at.Tie as tie
 

@@ -1,6 +1,6 @@
 -- `pddl_form::name_at` meets its contract.
 use borrow.Author.Needs.{needs}
-use Rattle.pddl_form.proofs.Tokens.{worded-within, named, unnamed, names-out}
+use Rattle.pddl_form.proofs.Tokens.{worded-within, named, unnamed}
 use Rattle.pddl_form.proofs.name_at.Statement.{statement}
 use Rattle.pddl_form.proofs.name_at.Tie as tie
 

@@ -1,6 +1,6 @@
 -- `pddl_form::open_at` meets its contract.
 use borrow.Author.Needs.{needs}
-use Rattle.pddl_form.proofs.Tokens.{opens, opens-out}
+use Rattle.pddl_form.proofs.Tokens.{opens}
 use Rattle.pddl_form.proofs.open_at.Statement.{statement}
 use Rattle.pddl_form.proofs.open_at.Tie as tie
 

@@ -5,7 +5,7 @@ use mathlib.Core.List.{List, [], _∷_}
 use Prim.Native.Nat.{ℕ, _≤_, _<_}
 use lib.ListN.{length}
 use Rattle.semantics.specs.Pddl as Pddl
-use Rattle.semantics.specs.Pddl.{opening, closing, word, tokens, Parsed, outside, parsed, _then_, many}
+use Rattle.semantics.specs.Pddl.{opening, closing, tokens, Parsed, outside, parsed, _then_, many}
 use Rattle.pddl_theory.specs.Inner.Place.{rest, span, leaves, items}
 use Rattle.pddl_token.specs.declared.Token.{Token}
 use Rattle.pddl_token.specs.declared.Token.the-variants as T

@@ -4,8 +4,11 @@ use Rattle.pddl_formula.proofs.Lists.{goes-at, goes-out}
 use Rattle.pddl_formula.proofs.formula_at.Statement.{statement}
 use Rattle.pddl_formula.proofs.formula_at.Tie as tie
 
-enum-known-p : tie.Need-enum-known-p
-enum-known-p c = search needs
+open-at-requires : tie.Need-open-at-requires
+open-at-requires c κs = search needs
+
+enum-known-inside : tie.Need-enum-known-inside
+enum-known-inside c = search needs
 
 formula-requires : tie.Need-formula-requires
 formula-requires c κs = search needs
@@ -24,4 +27,12 @@ returns-2 c = search (needs, goes-out)
 
 pub formula-at-spec : {M : Type 1} → statement M
 formula-at-spec =
-    tie.close (tie.spec enum-known-p formula-requires enum-told outside-requires returns returns-2)
+    tie.close
+    (tie.spec
+    open-at-requires
+    enum-known-inside
+    formula-requires
+    enum-told
+    outside-requires
+    returns
+    returns-2)

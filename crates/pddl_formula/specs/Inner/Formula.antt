@@ -5,18 +5,16 @@ use mathlib.Core.List.{List, [], _∷_, _++_, flatten}
 use Prim.Native.Nat.{ℕ, _≤_}
 use lib.ListN.{length}
 use Rattle.semantics.specs.Pddl as Pddl
-use Rattle.semantics.specs.Pddl.{Token, opening, closing, word, and′, not′}
-use Rattle.semantics.specs.Pddl.{Parsed, outside, parsed, _then_, many, expect}
+use Rattle.semantics.specs.Pddl.{Token, opening, closing, word}
+use Rattle.semantics.specs.Pddl.{Parsed, parsed, _then_, many, expect}
 use Rattle.semantics.specs.Pddl.{Literal, literal, known, isIn, bitFrom, maskOf, factsOf, depth}
 use Rattle.pddl_theory.specs.Inner.Place.{rest, span, leaves, items}
 use Rattle.pddl_name.specs.Inner.Table.{namesIn, Spans}
 use Rattle.pddl_form.specs.declared.Place.{Place}
 use Rattle.pddl_form.specs.declared.Place.the-variants.{At, Outside}
-use Rattle.pddl_form.specs.Inner.Place.{left, atomsFrom, Behind, Closes}
+use Rattle.pddl_form.specs.Inner.Place.{left, atomsFrom, Behind}
 use Rattle.pddl_formula.specs.declared.Literals.{Literals}
 use Rattle.pddl_formula.specs.declared.Fact.{Fact}
-use Rattle.pddl_formula.specs.declared.Opening.{Opening}
-use Rattle.pddl_formula.specs.declared.Opening.the-variants as H
 
 -- the table's offsets lie in the text, and it has at most 64 names
 pub record Ready (text spans : List ℕ) : Type 0 where
@@ -42,30 +40,6 @@ pub record Means (text spans : List ℕ) (more : ℕ) (p : Place) (reading : Par
   pub dels : r .dels ≡ maskOf (namesIn text spans) (factsOf true (items reading))
   pub names : r .known ≡ known (namesIn text spans ++ atomsFrom text more) (items reading)
 
--- a formula begins with `(and`, with `(not`, or with neither
-abbrev pub HeadOf : List ℕ → ℕ → Opening → Type 0
-HeadOf text at (H.And n) =
-    (expect (opening ∷ word and′ ∷ []) (rest text at) ≡ parsed tt (rest text n)) × (at ≤ n)
-HeadOf text at (H.Not n) =
-    (expect (opening ∷ word and′ ∷ []) (rest text at) ≡ outside)
-    × (expect (opening ∷ word not′ ∷ []) (rest text at) ≡ parsed tt (rest text n)) × (at ≤ n)
-HeadOf text at H.Other =
-    (expect (opening ∷ word and′ ∷ []) (rest text at) ≡ outside)
-    × (expect (opening ∷ word not′ ∷ []) (rest text at) ≡ outside)
-
-pub record Headed (text : List ℕ) (at : ℕ) (r : Opening) : Type 0 where
-  pub head : HeadOf text at r
-
--- the literals so far where their list ends, none where it does not
-abbrev pub endOf : ℕ → ℕ → Bool → Place → Literals
-endOf adds dels known (At n) = record { adds = adds; dels = dels; known = known; place = At n }
-endOf adds dels known Outside = nothing
-
-pub record EndAt (text : List ℕ) (at adds dels : ℕ) (known : Bool) (r : Literals) : Type 0 where
-  pub closed : Place
-  pub closes : Closes text (At at) closed
-  pub same : r ≡ endOf adds dels known closed
-
 -- behind `(not`
 abbrev pub negated : List Token → Parsed (List Literal)
 negated ts =
@@ -77,14 +51,16 @@ abbrev pub conjuncts : Bool → ℕ → List Token → Parsed (List Literal)
 conjuncts negations d ts =
     many (Pddl.formula negations d) ts then λ parts ts. expect (closing ∷ []) ts then λ _ ts. parsed (flatten parts) ts
 
-pub record LiteralAt (text spans : List ℕ) (more at : ℕ) (r : Literals) : Type 0 where
-  pub means : Means text spans more (At at) (literal (rest text at)) r
+-- the word s..e and what stands behind it, as an atom without its opening parenthesis
+pub record LiteralAt (text spans : List ℕ) (more s e : ℕ) (r : Literals) : Type 0 where
+  pub means : Means text spans more (At e) (literal (opening ∷ word (span text s e) ∷ rest text e)) r
 
 pub record NegationAt (text spans : List ℕ) (more at : ℕ) (r : Literals) : Type 0 where
   pub means : Means text spans more (At at) (negated (rest text at)) r
 
+-- behind an opening parenthesis
 pub record FormulaAt (text spans : List ℕ) (more : ℕ) (negations : Bool) (d at : ℕ) (r : Literals) : Type 0 where
-  pub means : Means text spans more (At at) (Pddl.formula negations d (rest text at)) r
+  pub means : Means text spans more (At at) (Pddl.formula negations d (opening ∷ rest text at)) r
 
 pub record ListAt (text spans : List ℕ) (more : ℕ) (negations : Bool) (d at : ℕ) (r : Literals) : Type 0 where
   pub means : Means text spans more (At at) (conjuncts negations d (rest text at)) r

@@ -4,18 +4,20 @@ use native.Mathlib.Omega.{arith}
 use Prim.Native.Nat.{_-_}
 use lib.ListN.{length}
 use Rattle.pddl_form.proofs.Lists.{atom-onward}
-use Rattle.pddl_list.proofs.Asking.{Counting, counting-begin, counting-below, counting-on, counting-end}
+use Rattle.pddl_theory.proofs.Turns.{Numbered, numbered-begin}
+use Rattle.pddl_form.specs.Inner.Place.{atomsFrom}
+use Rattle.pddl_list.proofs.Asking.{counting-below, counting-on, counting-end}
 use Rattle.pddl_list.proofs.count.Statement.{statement}
 use Rattle.pddl_list.proofs.count.Tie as tie
 
 abbrev Inv-loop : tie.InvT-loop
-Inv-loop text at n₀ i₀ n i = Counting text at n i
+Inv-loop text at n₀ i₀ n i = Numbered (atomsFrom text) at n i
 
 abbrev μ-loop : tie.MeasureT-loop
 μ-loop text at n₀ i₀ n i = length text - i
 
 loop-holds : tie.Need-loop-holds Inv-loop μ-loop
-loop-holds c = search counting-begin
+loop-holds c = search numbered-begin
 
 atom-at-requires : tie.Need-atom-at-requires Inv-loop μ-loop
 atom-at-requires c κs = search needs

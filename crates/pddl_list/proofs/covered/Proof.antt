@@ -6,19 +6,20 @@ use lib.ListN.{length}
 use Rattle.pddl_form.proofs.Lists.{atom-onward}
 use Rattle.semantics.specs.Base.{allOf}
 use Rattle.semantics.specs.Pddl.{isIn}
+use Rattle.pddl_theory.proofs.Turns.{Asked, asked-begin}
 use Rattle.pddl_form.specs.Inner.Place.{atomsFrom}
-use Rattle.pddl_list.proofs.Asking.{Asking, asking-begin, covered-not, covered-on, covered-end}
+use Rattle.pddl_list.proofs.Asking.{covered-not, covered-on, covered-end}
 use Rattle.pddl_list.proofs.covered.Statement.{statement}
 use Rattle.pddl_list.proofs.covered.Tie as tie
 
 abbrev Inv-loop : tie.InvT-loop
-Inv-loop text a b i₀ i = Asking (allOf (isIn (atomsFrom text b))) text a i
+Inv-loop text a b i₀ i = Asked (allOf (isIn (atomsFrom text b))) (atomsFrom text) a i
 
 abbrev μ-loop : tie.MeasureT-loop
 μ-loop text a b i₀ i = length text - i
 
 loop-holds : tie.Need-loop-holds Inv-loop μ-loop
-loop-holds c = search asking-begin
+loop-holds c = search asked-begin
 
 atom-at-requires : tie.Need-atom-at-requires Inv-loop μ-loop
 atom-at-requires c κs = search needs

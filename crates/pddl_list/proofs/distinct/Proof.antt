@@ -5,18 +5,20 @@ use Prim.Native.Nat.{_-_}
 use lib.ListN.{length}
 use Rattle.pddl_form.proofs.Lists.{atom-onward}
 use Rattle.semantics.specs.Pddl.{noneTwice}
-use Rattle.pddl_list.proofs.Asking.{Asking, asking-begin, distinct-not, distinct-on, distinct-end}
+use Rattle.pddl_theory.proofs.Turns.{Asked, asked-begin}
+use Rattle.pddl_form.specs.Inner.Place.{atomsFrom}
+use Rattle.pddl_list.proofs.Asking.{distinct-not, distinct-on, distinct-end}
 use Rattle.pddl_list.proofs.distinct.Statement.{statement}
 use Rattle.pddl_list.proofs.distinct.Tie as tie
 
 abbrev Inv-loop : tie.InvT-loop
-Inv-loop text at i₀ i = Asking noneTwice text at i
+Inv-loop text at i₀ i = Asked noneTwice (atomsFrom text) at i
 
 abbrev μ-loop : tie.MeasureT-loop
 μ-loop text at i₀ i = length text - i
 
 loop-holds : tie.Need-loop-holds Inv-loop μ-loop
-loop-holds c = search asking-begin
+loop-holds c = search asked-begin
 
 atom-at-requires : tie.Need-atom-at-requires Inv-loop μ-loop
 atom-at-requires c κs = search needs

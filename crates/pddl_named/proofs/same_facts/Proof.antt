@@ -1,6 +1,6 @@
 -- `pddl_named::same_facts` meets its contract.
 use borrow.Author.Needs.{needs}
-use Rattle.pddl_named.proofs.Agreeing.{facts-unknown, facts-by-mask, facts-by-name}
+use Rattle.pddl_named.proofs.Agreeing.{facts-first, facts-unknown, facts-by-mask, facts-by-name}
 use Rattle.pddl_named.proofs.same_facts.Statement.{statement}
 use Rattle.pddl_named.proofs.same_facts.Tie as tie
 
@@ -14,15 +14,18 @@ covered-requires-2 : tie.Need-covered-requires-2
 covered-requires-2 c κs = search needs
 
 returns : tie.Need-returns
-returns c = search (needs, facts-by-mask)
+returns c = search (needs, facts-first)
 
 returns-2 : tie.Need-returns-2
-returns-2 c = search (needs, facts-by-name)
+returns-2 c = search (needs, facts-by-mask)
 
 returns-3 : tie.Need-returns-3
-returns-3 c = search (needs, facts-unknown)
+returns-3 c = search (needs, facts-by-name)
+
+returns-4 : tie.Need-returns-4
+returns-4 c = search (needs, facts-unknown)
 
 pub same-facts-spec : {M : Type 1} → statement M
 same-facts-spec =
     tie.close
-    (tie.spec facts-from-requires covered-requires covered-requires-2 returns returns-2 returns-3)
+    (tie.spec returns facts-from-requires covered-requires covered-requires-2 returns-2 returns-3 returns-4)

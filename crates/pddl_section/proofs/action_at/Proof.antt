@@ -1,6 +1,6 @@
 -- `pddl_section::action_at` meets its contract.
 use borrow.Author.Needs.{needs}
-use Rattle.pddl_section.proofs.Chains.{an-action}
+use Rattle.pddl_section.proofs.Chains.{an-action-masked}
 use Rattle.pddl_section.proofs.action_at.Statement.{statement}
 use Rattle.pddl_section.proofs.action_at.Tie as tie
 
@@ -19,8 +19,8 @@ slice-aggregate-expect-2 c = search needs
 expect-requires-2 : tie.Need-expect-requires-2
 expect-requires-2 c κs = search needs
 
-formula-end-requires : tie.Need-formula-end-requires
-formula-end-requires c κs = search needs
+formula-at-requires : tie.Need-formula-at-requires
+formula-at-requires c κs = search needs
 
 slice-aggregate-expect-3 : tie.Need-slice-aggregate-expect-3
 slice-aggregate-expect-3 c = search needs
@@ -28,14 +28,23 @@ slice-aggregate-expect-3 c = search needs
 expect-requires-3 : tie.Need-expect-requires-3
 expect-requires-3 c κs = search needs
 
-formula-end-requires-2 : tie.Need-formula-end-requires-2
-formula-end-requires-2 c κs = search needs
+formula-at-requires-2 : tie.Need-formula-at-requires-2
+formula-at-requires-2 c κs = search needs
 
 close-at-requires : tie.Need-close-at-requires
 close-at-requires c κs = search needs
 
 returns : tie.Need-returns
-returns c = search (needs, an-action)
+returns c =
+    let a : tie.After-expect = search in
+    let w : tie.After-name-at = search in
+    let b : tie.After-expect2 = search in
+    let f : tie.After-formula-at = search in
+    let d : tie.After-expect3 = search in
+    let g : tie.After-formula-at2 = search in
+    let z : tie.After-close-at = search in
+    an-action-masked _ _ _ _ _ _ _ _ _ _ _ (a .expect .ensures) (w .name-at .ensures) (b .expect2 .ensures)
+    (f .formula-at .ensures) (d .expect3 .ensures) (g .formula-at2 .ensures) (z .close-at .ensures)
 
 pub action-at-spec : {M : Type 1} → statement M
 action-at-spec =
@@ -46,9 +55,9 @@ action-at-spec =
     name-at-requires
     slice-aggregate-expect-2
     expect-requires-2
-    formula-end-requires
+    formula-at-requires
     slice-aggregate-expect-3
     expect-requires-3
-    formula-end-requires-2
+    formula-at-requires-2
     close-at-requires
     returns)

@@ -16,8 +16,8 @@ abbrev μ-loop : tie.MeasureT-loop
 loop-holds : tie.Need-loop-holds Inv-loop μ-loop
 loop-holds c = search acting-begin
 
-action-at-requires : tie.Need-action-at-requires Inv-loop μ-loop
-action-at-requires c κs = search needs
+plain-action-at-requires : tie.Need-plain-action-at-requires Inv-loop μ-loop
+plain-action-at-requires c κs = search needs
 
 enum-known-behind : tie.Need-enum-known-behind Inv-loop μ-loop
 enum-known-behind c = search needs
@@ -25,8 +25,8 @@ enum-known-behind c = search needs
 loop-less : tie.Need-loop-less Inv-loop μ-loop
 loop-less c =
     let b : tie.After-behind Inv-loop μ-loop = search in
-    let a : tie.After-action-at Inv-loop μ-loop = search in
-    omega (arith, action-onward (a .action-at .ensures) _ (b .behind .given .1))
+    let a : tie.After-plain-action-at Inv-loop μ-loop = search in
+    omega (arith, action-onward (a .plain-action-at .ensures) _ (b .behind .given .1))
 
 loop-again : tie.Need-loop-again Inv-loop μ-loop
 loop-again c = search (needs, acting-on)
@@ -44,7 +44,7 @@ actions-from-spec =
     Inv-loop
     μ-loop
     loop-holds
-    action-at-requires
+    plain-action-at-requires
     enum-known-behind
     loop-less
     loop-again

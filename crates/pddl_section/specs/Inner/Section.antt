@@ -1,12 +1,14 @@
 -- What the readers of sections say: what is read, by the offsets of its parts.
 use mathlib.Core.Path.{_≡_}
 use mathlib.Core.Bool.{Bool, true, false}
-use mathlib.Core.List.{List}
+use mathlib.Core.List.{List, _++_}
 use Prim.Native.Nat.{ℕ, _≤_}
 use lib.ListN.{length}
 use Rattle.semantics.specs.Pddl as Pddl
-use Rattle.semantics.specs.Pddl.{Parsed, parsed, _then_, many, formula, depth, Literal}
+use Rattle.semantics.specs.Pddl.{parsed, _then_, many, formula, depth, Literal}
+use Rattle.semantics.specs.Pddl.{maskOf, factsOf, knownAction}
 use Rattle.pddl_theory.specs.Inner.Place.{rest, span, leaves, items}
+use Rattle.pddl_name.specs.Inner.Table.{namesIn}
 use Rattle.pddl_form.specs.declared.Place.{Place}
 use Rattle.pddl_form.specs.declared.Place.the-variants.{At}
 use Rattle.pddl_form.specs.Inner.Place.{left, atomsFrom, Behind, NotBefore}
@@ -37,6 +39,13 @@ pub record Acts (text : List ℕ) (p : Place) (r : Act) : Type 0 where
   pub same : (left text (r .place) then λ _ ts. parsed (actionOf text r) ts) ≡ (left text p then λ _ ts. Pddl.action ts)
   pub onward : Behind (length text) p (r .place)
   pub within : r .end ≤ length text
+
+-- its facts as masks over a table of names; they are known where they are names of the table or atoms from `more` on
+pub record Masked (text spans : List ℕ) (more : ℕ) (r : Act) : Type 0 where
+  pub needs : r .needs ≡ maskOf (namesIn text spans) (factsOf false (literalsAt text false (r .precondition)))
+  pub adds : r .adds ≡ maskOf (namesIn text spans) (factsOf false (literalsAt text true (r .effect)))
+  pub dels : r .dels ≡ maskOf (namesIn text spans) (factsOf true (literalsAt text true (r .effect)))
+  pub names : r .known ≡ knownAction (namesIn text spans ++ atomsFrom text more) (actionOf text r)
 
 -- the actions from an offset on
 abbrev pub actionsFrom : List ℕ → ℕ → List Pddl.Action
@@ -89,8 +98,3 @@ pub record Members (text : List ℕ) (at : ℕ) (r : Member) : Type 0 where
 -- the members from an offset on
 abbrev pub membersFrom : List ℕ → ℕ → List Pddl.Member
 membersFrom text at = items (many Pddl.member (rest text at))
-
--- the number of members; where there is one, they are those from the text's start on
-pub record Counted (text : List ℕ) (r : ℕ) : Type 0 where
-  pub number : r ≡ length (Pddl.membersOf text)
-  pub from-start : (r ≡ 0 → ⊥) → Pddl.membersOf text ≡ membersFrom text 0

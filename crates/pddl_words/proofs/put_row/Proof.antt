@@ -1,6 +1,6 @@
 -- `pddl_words::put_row` meets its contract.
 use borrow.Author.Needs.{needs}
-use Rattle.pddl_words.proofs.Appending.{room-2, room-3, room-4, room-5, whole-row}
+use Rattle.pddl_theory.proofs.Appending.{room-2, room-3, room-4, room-5, whole-row}
 use Rattle.pddl_words.proofs.put_row.Statement.{statement}
 use Rattle.pddl_words.proofs.put_row.Tie as tie
 

@@ -1,0 +1,145 @@
+-- The pass over the records of a waits text: what is known of the waits before offset i. Assumes nothing.
+use mathlib.Core.Path.{_≡_, refl, sym, ap, subst, _∙_}
+use mathlib.Core.Bool.{Bool, true, false, cond, true≢false, _&&_}
+use mathlib.Core.List.{List, [], map}
+use Prim.Native.Nat.{ℕ, zero, suc, _-_, _<_, max}
+use native.Mathlib.Omega.{arith}
+use lib.ListN.{length, getD, drop, replicate, length-map}
+use lib.Seq.{ext-getD}
+use lib.Bits.{bitOr, or-zero-l, or-zero-r}
+use lib.Dec.{ltb}
+use Rattle.theory.proofs.Lists.{and-elim, upTo-length, getD-upTo}
+use Rattle.theory.proofs.Loops.{Rest, rest-begin}
+use Rattle.semantics.specs.Base.{upTo, zeroed}
+use Rattle.semantics.specs.Text.{textWords}
+use Rattle.semantics.specs.Pddl.{waitsKnown, waitMask}
+use Rattle.pddl_waits.proofs.Waits.{known-both, known-max}
+use Rattle.pddl_waits.proofs.Filling.{added}
+use Rattle.pddl_waits.specs.Inner.Wait.{inPairs, Next, waitMeans}
+use Rattle.pddl_waits.specs.Inner.Waits.{AddedIn, WaitsIn}
+use Rattle.pddl_waits.specs.declared.Wait.{Wait}
+use Rattle.pddl_waits.specs.declared.Wait.the-variants.{For, End, Bad}
+
+-- the record at offset i, where it is one
+there : {waits : List ℕ} {i : ℕ} (r : Wait) → waitMeans waits i r → (a f j : ℕ) → r ≡ For a f j → Next waits i a f j
+there {waits} {i} r means a f j e = subst (waitMeans waits i) e means
+
+pub less : (waits : List ℕ) (i : ℕ) (r : Wait) → waitMeans waits i r → (a f j : ℕ) → r ≡ For a f j
+    → length waits - j < length waits - i
+less waits i r means a f j e =
+    let n = there r means a f j e in
+    omega (arith, n .onward, n .within)
+
+-- whether there is a wait before offset i, the greatest numbers in those, and their masks
+pub record Before (waits table₀ table : List ℕ) (some : Bool) (action fact i : ℕ) : Type 0 where
+  pub left : Rest inPairs waits i
+  pub kept : length table ≡ length table₀
+  none : some ≡ false → (action ≡ 0) × (fact ≡ 0)
+  known : (m F : ℕ) → waitsKnown m F (textWords waits)
+      ≡ cond some (ltb action m && ltb fact F) true && waitsKnown m F (textWords (drop i waits))
+  each : waitsKnown (length table) 64 (textWords waits) ≡ true → (b : ℕ)
+      → bitOr (getD table b 0) (waitMask b (textWords (drop i waits))) ≡ waitMask b (textWords waits)
+
+pub begin : (waits table : List ℕ) → table ≡ zeroed table → Before waits table table false 0 0 0
+begin waits table z = record {
+  left = rest-begin inPairs waits;
+  kept = refl;
+  none = λ _. (refl, refl);
+  known = λ m F. refl;
+  each = λ _ b.
+      ap (λ (x : ℕ). bitOr x (waitMask b (textWords waits)))
+      (ap (λ (t : List ℕ). getD t b 0) z ∙ zeros (length table) b)
+      ∙ or-zero-l (waitMask b (textWords waits));
+}
+  where
+    zeros : (n b : ℕ) → _≡_ {A = ℕ} (getD (replicate n 0) b 0) 0
+    zeros zero b = refl
+    zeros (suc n) zero = refl
+    zeros (suc n) (suc b) = zeros n b
+
+module _ {waits table₀ table : List ℕ} {some : Bool} {action fact i : ℕ}
+    (s : Before waits table₀ table some action fact i) (r : Wait) (means : waitMeans waits i r) where
+  module _ (a f j : ℕ) (e : r ≡ For a f j) where
+    here : Next waits i a f j
+    here = there r means a f j e
+
+    both : waitsKnown (length table) 64 (textWords waits) ≡ true → (a < length table) × (f < 64)
+    both h =
+        known-both (length table) 64 a f (textWords (drop j waits))
+        (ap (waitsKnown (length table) 64) (sym (here .words))
+        ∙ and-elim (cond some (ltb action (length table) && ltb fact 64) true)
+        (waitsKnown (length table) 64 (textWords (drop i waits))) (sym (s .known (length table) 64) ∙ h) .1)
+
+    known-on : (m F : ℕ) → waitsKnown m F (textWords waits)
+        ≡ (ltb (max action a) m && ltb (max fact f) F) && waitsKnown m F (textWords (drop j waits))
+    known-on m F =
+        s .known m F
+        ∙ ap (λ (ws : List ℕ). cond some (ltb action m && ltb fact F) true && waitsKnown m F ws) (here .words)
+        ∙ known-max action fact a f m F (textWords (drop j waits)) some (s .none)
+
+    module _ (after : List ℕ) (t : AddedIn table a f after) where
+      each-on : waitsKnown (length after) 64 (textWords waits) ≡ true → (b : ℕ)
+          → bitOr (getD after b 0) (waitMask b (textWords (drop j waits))) ≡ waitMask b (textWords waits)
+      each-on h b =
+          let k : waitsKnown (length table) 64 (textWords waits) ≡ true =
+          ap (λ (n : ℕ). waitsKnown n 64 (textWords waits)) (sym (t .size)) ∙ h in
+          let below = both k in
+          ap (λ (x : List ℕ). bitOr (getD x b 0) (waitMask b (textWords (drop j waits))))
+          (t .here (below .0) (below .1))
+          ∙ added table a f b (textWords (drop j waits)) (below .0)
+          ∙ ap (λ (ws : List ℕ). bitOr (getD table b 0) (waitMask b ws)) (sym (here .words))
+          ∙ s .each k b
+
+      pub onward : (x y : ℕ) → x ≡ max action a → y ≡ max fact f → Before waits table₀ after true x y j
+      onward x y p q = record {
+        left = record { most = here .within; rest = s .left .rest ∙ here .pairs };
+        kept = t .size ∙ s .kept;
+        none = λ h. absurd (true≢false h);
+        known = λ m F. rw (p, q) (known-on m F);
+        each = each-on;
+      }
+
+  module _ (e : r ≡ End) where
+    ended : (inPairs (drop i waits) ≡ true) × (textWords (drop i waits) ≡ [])
+    ended = subst (waitMeans waits i) e means
+
+    known-end : (m F : ℕ) → waitsKnown m F (textWords waits) ≡ cond some (ltb action m && ltb fact F) true
+    unfolding waitsKnown
+    known-end m F =
+        s .known m F
+        ∙ ap (λ (ws : List ℕ). cond some (ltb action m && ltb fact F) true && waitsKnown m F ws) (ended .1)
+        ∙ and-true (cond some (ltb action m && ltb fact F) true)
+      where
+        and-true : (b : Bool) → b && true ≡ b
+        and-true true = refl
+        and-true false = refl
+
+    module _ (h : waitsKnown (length table) 64 (textWords waits) ≡ true) where
+      each-end : (b : ℕ) → getD table b 0 ≡ waitMask b (textWords waits)
+      unfolding waitMask
+      each-end b =
+          sym (or-zero-r (getD table b 0))
+          ∙ ap (λ (ws : List ℕ). bitOr (getD table b 0) (waitMask b ws)) (sym (ended .1))
+          ∙ s .each h b
+
+      filled : table ≡ map (λ b. waitMask b (textWords waits)) (upTo (length table))
+      filled =
+          let mask : ℕ → ℕ = λ b. waitMask b (textWords waits) in
+          let many : length (map mask (upTo (length table))) ≡ length table =
+          length-map (upTo (length table)) mask ∙ upTo-length (length table) in
+          ext-getD 0 table (map mask (upTo (length table))) (sym many)
+          (λ b l. each-end b ∙ sym (getD-upTo mask (length table) b 0 (omega arith)))
+
+    pub end : WaitsIn waits table (record { good = true; some = some; action = action; fact = fact })
+    end = record {
+      good = sym (s .left .rest ∙ ended .0);
+      known = λ _. known-end;
+      masks = λ _. filled;
+    }
+
+  pub out : r ≡ Bad → WaitsIn waits table (record { good = false; some = some; action = action; fact = fact })
+  out e = record {
+    good = sym (s .left .rest ∙ subst (waitMeans waits i) e means);
+    known = λ h. absurd (true≢false (sym h));
+    masks = λ h. absurd (true≢false (sym h));
+  }
