@@ -87,18 +87,6 @@ module _ {text : List ℕ} {n : ℕ} where
         let k : isName (span text (wordedOf t .first) (wordedOf t .end)) ≡ false = rw e at (sym is ∙ h) in
         rw q (unnamed-of t x k)
 
--- ---- outside stays outside
-
-module _ {text : List ℕ} (p : Place) (q : p ≡ Outside) where
-  pub opens-out : Opens text p Outside
-  opens-out = record { same = rw q; onward = tt }
-
-  pub closes-out : Closes text p Outside
-  closes-out = record { same = rw q; onward = tt }
-
-  pub names-out : Names text p noWord
-  names-out = record { same = rw q; onward = tt; within = omega arith }
-
 -- ---- an atom
 
 pub behind-behind : (most : ℕ) (p q r : Place) → Behind most p q → Behind most q r → Behind most p r
