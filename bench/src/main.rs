@@ -154,33 +154,24 @@ impl Bench {
         law: &'static str,
         actions: usize,
         run: impl Fn(&mut Slices),
-        check: impl Fn(&Slices) -> Result<usize, String>,
+        rows: impl Fn(&Slices) -> usize,
     ) -> Measured {
         let [mut library, mut twin] = [Side::Library, Side::Twin].map(Slices::new);
         run(&mut library);
         run(&mut twin);
         assert_eq!(library.returned, 0, "{operation} on {law} is refused");
         assert!(library.agree(&twin), "{operation} on {law}: the answers differ");
-        let rows = [&library, &twin].map(|slices| {
-            check(slices).unwrap_or_else(|wrong| panic!("{operation} on {law}: {wrong}"))
-        });
-        assert_eq!(rows[0], rows[1], "{operation} on {law}: the answers differ");
+        let rows = rows(&library);
         let times = self.budget.measure(|| run(&mut library), || run(&mut twin));
         assert!(library.agree(&twin), "{operation} on {law}: a later answer differs");
-        Measured { operation, law, rows: rows[0], actions, times }
+        Measured { operation, law, rows, actions, times }
     }
 
     fn task_check(&self, actions: usize) -> Measured {
         let law = laws::repeated(laws::counter(8), actions);
         let words = law.words();
         let rows = 2 + actions;
-        self.measure(
-            "task check",
-            "one member",
-            actions,
-            |slices| slices.task(&words),
-            |_| Ok(rows),
-        )
+        self.measure("task check", "one member", actions, |slices| slices.task(&words), |_| rows)
     }
 
     /// The last action, at a shared copy at which it goes.
@@ -188,45 +179,39 @@ impl Bench {
         let law = laws::repeated(laws::counter(8), actions);
         let words = law.words();
         let run = |slices: &mut Slices| slices.step(&words, actions as u16 - 1, law.known());
-        self.measure("step", "one member", actions, run, |_| Ok(1))
+        self.measure("step", "one member", actions, run, |_| 1)
     }
 
     fn solo_replay(&self, steps: usize) -> Measured {
         let (law, plan) = laws::long_plan(steps);
         let words = law.words();
         let run = |slices: &mut Slices| slices.solo_replay(&words, &plan);
-        self.measure("solo replay", "one member", law.actions.len(), run, |_| Ok(plan.len()))
+        self.measure("solo replay", "one member", law.actions.len(), run, |_| plan.len())
     }
 
     fn solo_search(&self, name: &'static str, law: Law) -> Measured {
         let words = law.words();
         let run = |slices: &mut Slices| slices.solo_search(&words);
-        self.measure("solo search", name, law.actions.len(), run, |slices| {
-            Ok(slices.out[0] as usize)
-        })
+        self.measure("solo search", name, law.actions.len(), run, |slices| slices.out[0] as usize)
     }
 
     fn verdict(&self, name: &'static str, law: Law) -> Measured {
         let words = law.words();
         let run = |slices: &mut Slices| slices.verdict(&words);
-        let rows = |slices: &Slices| {
-            slices.conflict(&words)?;
-            Ok(slices.configurations(law.goals.len() + 1))
-        };
+        let rows = |slices: &Slices| slices.configurations(law.goals.len() + 1);
         self.measure("verdict", name, law.actions.len(), run, rows)
     }
 
     fn verdict_of(&self, words: &[u64]) -> Times {
         let run = |slices: &mut Slices| slices.verdict(words);
-        let check = |slices: &Slices| slices.conflict(words).map(|()| 0);
-        self.measure("verdict", "the law of the whole run", 0, run, check).times
+        self.measure("verdict", "the law of the whole run", 0, run, |_| 0).times
     }
 
     fn joint_replay(&self, steps: usize) -> Measured {
         let (law, plans, ends, picks) = laws::long_run(steps);
         let words = law.words();
         let run = |slices: &mut Slices| slices.joint_replay(&words, &plans, &ends, &picks);
-        let rows = |slices: &Slices| Ok(slices.out[2] as usize);
+        let rows = |slices: &Slices| slices.out[2] as usize;
         self.measure("joint replay", "eight members in turn", law.actions.len(), run, rows)
     }
 
@@ -235,9 +220,7 @@ impl Bench {
         let (law, plans, ends, _) = laws::long_run(steps);
         let words = law.words();
         let run = |slices: &mut Slices| slices.pick(&words, &plans, &ends);
-        self.measure("one pick", "eight members in turn", law.actions.len(), run, |_| {
-            Ok(plans.len())
-        })
+        self.measure("one pick", "eight members in turn", law.actions.len(), run, |_| plans.len())
     }
 
     /// One pick and the replay of all, both by the library.
@@ -282,7 +265,7 @@ impl Bench {
         let run = |slices: &mut Slices| slices.pddl_read(text.as_bytes(), waits.as_bytes());
         let actions = text.matches("(:action").count();
         let bytes = text.len() + waits.len();
-        self.measure("PDDL reader", name, actions, run, |_| Ok(bytes))
+        self.measure("PDDL reader", name, actions, run, |_| bytes)
     }
 
     /// Both sides write texts of their own spelling, which read back to one task.
@@ -306,7 +289,7 @@ impl Bench {
     fn reader(&self, records: usize) -> Measured {
         let text = laws::wide_text(records);
         let run = |slices: &mut Slices| slices.read(text.as_bytes());
-        let rows = |slices: &Slices| Ok(slices.out[0] as usize);
+        let rows = |slices: &Slices| slices.out[0] as usize;
         self.measure("reader", "wide masks", records - 9, run, rows)
     }
 }

@@ -3,8 +3,6 @@
 use reference::fast::Fast;
 use reference::interface::Interface;
 use reference::interface::Pddl;
-use reference::paper::conflict::Conflict;
-use reference::paper::run::Outcome;
 
 /// Words of the verdict program's tables.
 const LOCAL: usize = 4096;
@@ -170,36 +168,18 @@ impl Slices {
         self.configurations.chunks(width).filter(|row| row.iter().any(|&word| word != 0)).count()
     }
 
-    /// Whether both hold one answer: the return, the numbers, every table and the run. A conflict
-    /// is free, and is not looked at here.
+    /// Whether both hold one answer: the return, the numbers, every table, the conflict and the
+    /// run. The trail is free.
     pub fn agree(&self, other: &Slices) -> bool {
         self.returned == other.returned
             && self.out == other.out
             && self.local == other.local
             && self.marks == other.marks
             && self.configurations == other.configurations
+            && self.plans == other.plans
+            && self.ends == other.ends
+            && self.picks == other.picks
             && self.words == other.words
             && self.run == other.run
-    }
-
-    /// Whether the conflict slices hold what the verdict's answer asks: a conflict that replays to
-    /// it, or zeros.
-    pub fn conflict(&self, task: &[u64]) -> Result<(), String> {
-        let members = task[1] as usize;
-        let listed = self.configurations(members + 1);
-        let [kind, member, done, _] = self.out;
-        let outcome = match kind {
-            2 => Outcome::Collision,
-            3 => Outcome::Deadlock,
-            4 => Outcome::Missed(member as usize),
-            _ => {
-                let zero = self.plans.iter().all(|&entry| entry == 0)
-                    && self.ends.iter().all(|&end| end == 0)
-                    && self.picks.iter().all(|&pick| pick == 0);
-                return if zero { Ok(()) } else { Err("a conflict where there is none".into()) };
-            }
-        };
-        let (plans, ends, picks) = (&self.plans, &self.ends, &self.picks);
-        Conflict { outcome, done, plans, ends, picks }.check(task, members, listed)
     }
 }

@@ -8,6 +8,8 @@ use std::collections::BTreeMap;
 pub struct Coverage {
     counts: BTreeMap<(&'static str, Class), u64>,
     brute: u64,
+    /// Those of the verdicts beside brute force that tell a conflict.
+    conflicts: u64,
     played: u64,
 }
 
@@ -40,6 +42,8 @@ impl Coverage {
     pub fn count(&mut self, checked: &Checked) {
         *self.counts.entry((checked.operation, checked.class)).or_default() += 1;
         self.brute += checked.brute as u64;
+        let conflict = matches!(checked.class, Class::Answer(2..=4));
+        self.conflicts += (checked.brute && conflict) as u64;
         self.played += checked.played as u64;
     }
 
@@ -49,6 +53,7 @@ impl Coverage {
             *self.counts.entry(key).or_default() += count;
         }
         self.brute += other.brute;
+        self.conflicts += other.conflicts;
         self.played += other.played;
     }
 
@@ -84,8 +89,8 @@ impl Coverage {
         }
         if self.brute + self.played > 0 {
             lines.push(format!(
-                "verdicts beside brute force: {}, beside played runs: {}",
-                self.brute, self.played
+                "verdicts beside brute force: {}, {} with a conflict; beside played runs: {}",
+                self.brute, self.conflicts, self.played
             ));
         }
         lines

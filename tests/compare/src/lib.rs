@@ -1,6 +1,7 @@
 //! The comparison: generated cases, each an operation of the C interface on one input, held against
 //! the second implementation. The return, `out` and every lent slice are compared cell by cell,
-//! also after a refusal; a conflict is free and is replayed in both implementations.
+//! also after a refusal; the trail alone is free after an answer. A conflict is also replayed in
+//! both implementations.
 #![forbid(unsafe_code)]
 
 // Brings the functions that the wrapper declares.

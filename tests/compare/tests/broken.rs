@@ -6,6 +6,7 @@ mod listed;
 use compare::driver::{run, Options};
 use reference::fast::Fast;
 use reference::interface::{out_length, Interface};
+use reference::wrong;
 
 listed! {
     /// What is wrong.
@@ -299,10 +300,21 @@ impl Interface for Broken {
     }
 }
 
+const OPTIONS: Options = Options { seed: 11, cases: 100_000, threads: 2, stop: true };
+
 #[test]
 fn every_broken_implementation_is_found() {
-    let options = Options { seed: 11, cases: 100_000, threads: 2, stop: true };
     let unnoticed: Vec<Broken> =
-        Broken::ALL.iter().copied().filter(|broken| run(broken, options).failed == 0).collect();
+        Broken::ALL.iter().copied().filter(|broken| run(broken, OPTIONS).failed == 0).collect();
     assert_eq!(unnoticed, []);
+}
+
+#[test]
+fn every_other_conflict_is_found() {
+    let unnoticed: Vec<&str> = wrong::ALL
+        .iter()
+        .filter(|wrong| run(*wrong, OPTIONS).failed == 0)
+        .map(|wrong| wrong.name)
+        .collect();
+    assert_eq!(unnoticed, Vec::<&str>::new());
 }

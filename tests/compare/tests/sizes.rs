@@ -74,6 +74,9 @@ listed! {
         VerdictPlan,
         VerdictEntries,
         VerdictAction,
+        VerdictPick,
+        VerdictMove,
+        VerdictRest,
         VerdictCleared,
         VerdictPicksCleared,
         VerdictFull,
@@ -98,7 +101,8 @@ impl Quantity {
             TaskActionRow | StepAction | SoloAction | VerdictActions | VerdictAction => 256,
             ReadRecords | ReadBadRecord => 265,
             ReadWords => 1325,
-            VerdictCollision | VerdictDeadlock | VerdictPlan | VerdictEntries => 1024,
+            VerdictCollision | VerdictDeadlock | VerdictPlan | VerdictEntries | VerdictPick
+            | VerdictMove | VerdictRest => 1024,
             VerdictMissed => 2048,
             SearchRows | SearchTable | SearchMarks | SearchDistance | SearchCleared
             | SearchFull | VerdictCopies | VerdictMarks | VerdictOffset | VerdictRows
@@ -177,6 +181,23 @@ fn longest(ends: &[u64]) -> (usize, usize) {
     let begins = std::iter::once(0).chain(ends.iter().copied());
     let lengths = ends.iter().zip(begins).map(|(end, begin)| (end.saturating_sub(begin)) as usize);
     lengths.enumerate().max_by_key(|&(_, length)| length).unwrap_or((0, 0))
+}
+
+/// The action after this one that does the same.
+fn again(task: &[u64], number: u16) -> Option<u16> {
+    let row = |number: u16| &task[5 * (1 + task[1] as usize + number as usize)..][..5];
+    (number + 1..task[2] as u16).find(|&other| row(other) == row(number))
+}
+
+/// Where the moves of a conflict stand in its plans, in the order of its picks.
+fn moves(ends: &[u64], picks: &[u8]) -> Vec<usize> {
+    let begins = std::iter::once(0).chain(ends.iter().map(|&end| end as usize));
+    let mut places: Vec<usize> = begins.collect();
+    let mut next = |member: u8| {
+        places[member as usize] += 1;
+        places[member as usize] - 1
+    };
+    picks.iter().map(|&member| next(member)).collect()
 }
 
 /// A member's copies, as many as solo search listed.
@@ -504,6 +525,27 @@ impl Interface for Twin {
         }
         if entries > 0 && self.at(VerdictEntries, entries) {
             plans[entries - 1] ^= 1;
+        }
+        // The last move, and the last step of the longest rest of a plan, by another action.
+        let moves = moves(&ends[..members], &picks[..done]);
+        let other = moves.last().and_then(|&entry| Some((entry, again(task, plans[entry])?)));
+        let rest = |&member: &usize| {
+            let begin = if member == 0 { 0 } else { ends[member - 1] };
+            let moved = picks[..done].iter().filter(|&&pick| pick as usize == member).count();
+            (ends[member] - begin) as usize - moved
+        };
+        let member = (0..members).max_by_key(rest).expect("a member");
+        let rest = rest(&member);
+        let last = (rest > 0).then(|| ends[member] as usize - 1);
+        let another = last.and_then(|entry| Some((entry, again(task, plans[entry])?)));
+        if let Some((entry, number)) = other.filter(|_| self.at(VerdictMove, done)) {
+            plans[entry] = number;
+        }
+        if let Some((entry, number)) = another.filter(|_| self.at(VerdictRest, rest)) {
+            plans[entry] = number;
+        }
+        if done > 0 && self.at(VerdictPick, done) {
+            picks[done - 1] ^= 1;
         }
         let highest = (0..entries).max_by_key(|&entry| plans[entry]);
         if let Some(entry) = highest.filter(|&entry| plans[entry] > 0) {

@@ -1,6 +1,5 @@
 //! The verdict file, and what has to stand in it.
 
-use reference::paper::conflict::Conflict;
 use reference::paper::run::Outcome;
 use reference::paper::task::ROW;
 use reference::paper::text::{self, RECORDS};
@@ -49,20 +48,21 @@ impl File {
         (lines.join("\r\n") + "\r\n").into_bytes()
     }
 
-    /// The parts of a file; none where these are not the bytes of one.
-    pub fn parse(bytes: &[u8]) -> Option<File> {
-        let mut lines = std::str::from_utf8(bytes).ok()?.split("\r\n").skip(1);
-        let (kind, number) = lines.next()?.split_once(',')?;
-        let mut file = File::short(kind, number.parse().ok()?);
-        for line in lines.take_while(|line| !line.is_empty()) {
-            match line.split_once(',')? {
-                ("plan", _) => file.plans.push(Vec::new()),
-                ("action", number) => file.plans.last_mut()?.push(number.parse().ok()?),
-                ("pick", number) => file.picks.push(number.parse().ok()?),
-                _ => return None,
-            }
+    /// A file with a conflict, whose plans stand in one slice.
+    pub fn of_conflict(
+        kind: &str,
+        number: u64,
+        slice: &[u16],
+        ends: &[u64],
+        picks: Vec<u8>,
+    ) -> File {
+        let mut plans = Vec::new();
+        let mut begin = 0;
+        for &end in ends {
+            plans.push(slice[begin..end as usize].to_vec());
+            begin = end as usize;
         }
-        (file.bytes() == bytes).then_some(file)
+        File { kind: kind.to_string(), number, plans, picks }
     }
 }
 
@@ -71,86 +71,80 @@ pub struct Judged {
     /// The words of an accepted task.
     pub task: Vec<u64>,
     pub answer: Result<Class, Refusal>,
+    /// The file that has to be printed.
+    pub file: File,
 }
 
 /// The paper's answer to a text, with tables as long as the program's.
 pub fn judge(text: &[u8]) -> Judged {
     let mut task = vec![0; RECORDS * ROW];
     match text::read(text, &mut task) {
-        Err(refusal) => Judged { task: Vec::new(), answer: Err(refusal) },
+        Err(refusal) => {
+            Judged { task: Vec::new(), answer: Err(refusal), file: File::short("refused", refusal) }
+        }
         Ok(records) => {
             task.truncate(records * ROW);
-            let answer = with_tables(&task);
-            Judged { task, answer }
+            let (answer, file) = with_tables(&task);
+            Judged { task, answer, file }
         }
     }
 }
 
-fn with_tables(task: &[u64]) -> Result<Class, Refusal> {
+fn with_tables(task: &[u64]) -> (Result<Class, Refusal>, File) {
     let members = task[1] as usize;
     let rows = members * copies_room(members);
     let most = configurations_room(members);
-    verdict(
+    let (mut plans, mut ends, mut picks) = (vec![0; most + rows], vec![0; members], vec![0; most]);
+    let answer = verdict(
         task,
         &mut Lent {
             local: &mut [0; LOCAL],
             marks: &mut vec![0; rows],
             configurations: &mut [0; CONFIGURATIONS],
             trail: &mut vec![0; 2 * most],
-            plans: &mut vec![0; most + rows],
-            ends: &mut vec![0; members],
-            picks: &mut vec![0; most],
+            plans: &mut plans,
+            ends: &mut ends,
+            picks: &mut picks,
         },
-    )
+    );
+    let file = match answer {
+        Err(refusal) => File::short("refused", refusal),
+        Ok(Class::Unsolvable(member)) => File::short("unsolvable", member as u64),
+        Ok(Class::Robust(count)) => File::short("robust", count as u64),
+        Ok(Class::NotRobust(_, outcome, done)) => {
+            let (kind, number) = match outcome {
+                Outcome::Collision => ("collision", done),
+                Outcome::Deadlock => ("deadlock", done),
+                Outcome::Missed(member) => ("missed", member),
+                other => unreachable!("{other:?} is no fault"),
+            };
+            picks.truncate(done + usize::from(outcome == Outcome::Collision));
+            File::of_conflict(kind, number as u64, &plans, &ends, picks)
+        }
+    };
+    (answer, file)
 }
 
 impl Judged {
-    /// What a printed file differs in, or its parts.
-    pub fn check(&self, printed: &[u8]) -> Result<File, String> {
-        let expected = match &self.answer {
-            Err(refusal) => File::short("refused", *refusal),
-            Ok(Class::Unsolvable(member)) => File::short("unsolvable", *member as u64),
-            Ok(Class::Robust(count)) => File::short("robust", *count as u64),
-            Ok(Class::NotRobust(listed, _)) => return self.check_conflict(*listed, printed),
+    /// What a printed file differs in: the first line that is not as it has to be.
+    pub fn check(&self, printed: &[u8]) -> Result<(), String> {
+        let expected = self.file.bytes();
+        if expected == printed {
+            return Ok(());
+        }
+        let lines = |bytes: &[u8]| -> Vec<String> {
+            let lines = bytes.split_inclusive(|&byte| byte == b'\n');
+            lines.map(|line| line.escape_ascii().to_string()).collect()
         };
-        if expected.bytes() != printed {
-            return Err(format!("expected {},{}", expected.kind, expected.number));
-        }
-        Ok(expected)
-    }
-
-    /// A file of a law that is not robust: its conflict has to replay to its kind and number.
-    fn check_conflict(&self, listed: usize, printed: &[u8]) -> Result<File, String> {
-        let file = File::parse(printed).ok_or("expected a conflict in lines of the file's form")?;
-        let picks = file.picks.len() as u64;
-        let (outcome, done) = match file.kind.as_str() {
-            "collision" => (Outcome::Collision, file.number),
-            "deadlock" => (Outcome::Deadlock, file.number),
-            "missed" => (Outcome::Missed(file.number as usize), picks),
-            kind => return Err(format!("the law is not robust, and the file says {kind}")),
-        };
-        let colliding = u64::from(outcome == Outcome::Collision);
-        if picks != done + colliding {
-            return Err(format!("{picks} picks where {done} are done"));
-        }
-        let members = self.task[1] as usize;
-        if file.plans.len() != members {
-            return Err(format!("{} plans for {members} members", file.plans.len()));
-        }
-        let mut ends = Vec::new();
-        for plan in &file.plans {
-            ends.push(ends.last().unwrap_or(&0) + plan.len() as u64);
-        }
-        let conflict = Conflict {
-            outcome,
-            done,
-            plans: &file.plans.concat(),
-            ends: &ends,
-            picks: &file.picks,
-        };
-        conflict
-            .check(&self.task, members, listed)
-            .map_err(|what| format!("the conflict: {what}"))?;
-        Ok(file)
+        let (expected, printed) = (lines(&expected), lines(printed));
+        let same = expected.iter().zip(&printed).take_while(|(one, other)| one == other).count();
+        let line = |lines: &[String]| lines.get(same).map_or("the end".into(), String::clone);
+        let File { kind, number, .. } = &self.file;
+        Err(format!(
+            "expected {kind},{number}; line {}: expected {}, found {}",
+            same + 1,
+            line(&expected),
+            line(&printed)
+        ))
     }
 }

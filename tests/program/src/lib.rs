@@ -1,5 +1,5 @@
 //! The verdict program on generated texts: each file that it prints is held against the second
-//! implementation, byte for byte; a conflict, which is free, by its replay.
+//! implementation, byte for byte.
 #![forbid(unsafe_code)]
 
 pub mod driver;

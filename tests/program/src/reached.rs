@@ -1,6 +1,6 @@
 //! What the texts reached: each answer, each refusal, and sizes.
 
-use crate::file::{configurations_room, copies_room, File, Judged};
+use crate::file::{configurations_room, copies_room, Judged};
 use reference::fast::{copies, Task};
 use reference::paper::verdict::Class;
 use std::collections::{BTreeMap, BTreeSet};
@@ -51,7 +51,8 @@ const TABLES: [(&str, usize); 4] = [
 
 impl Reached {
     /// Counts a text that passed.
-    pub fn count(&mut self, text: &[u8], judged: &Judged, file: &File) {
+    pub fn count(&mut self, text: &[u8], judged: &Judged) {
+        let file = &judged.file;
         let answer = match file.kind.as_str() {
             "refused" => format!("refused {}", file.number),
             kind => kind.to_string(),
@@ -81,7 +82,7 @@ impl Reached {
         match &judged.answer {
             Err(_) if found.contains(&None) => drop(self.tables.insert(("copies over", members))),
             Err(_) => drop(self.tables.insert(("configurations over", members))),
-            Ok(Class::Robust(listed) | Class::NotRobust(listed, _)) => {
+            Ok(Class::Robust(listed) | Class::NotRobust(listed, ..)) => {
                 self.size("configurations", *listed as u64);
                 if *listed == configurations_room(members) {
                     self.tables.insert(("configurations full", members));

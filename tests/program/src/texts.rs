@@ -43,6 +43,7 @@ fn edges() -> Vec<Vec<u8>> {
         l5.into(),
         l5.to_string() + "\r\n",
         l5.to_string() + "\r\n\r\n",
+        l5.to_string() + "\r\n\0",
         "7".repeat(28090),
         ",".repeat(28090),
         "\r\n".repeat(300),
@@ -59,6 +60,7 @@ fn any(random: &mut Random) -> Vec<u8> {
             let (members, count) = (random.between(2, 8), random.between(1, 200));
             Size::Configurations { members, count }.law(random).words()
         }
+        13..=32 => families::choices(random).words(),
         _ => families::small(random),
     };
     if random.chance(25) {

@@ -7,6 +7,7 @@ use program::texts::{fixed, made};
 use reference::fast::{copies, Fast, Task};
 use reference::interface::{out_length, Interface};
 use reference::paper::verdict::Class;
+use reference::wrong::{self, Wrong};
 use Broken::*;
 
 /// What is wrong; a number says from which size on, or with how many members.
@@ -105,24 +106,24 @@ const ALL: [Broken; 56] = [
     NumberOff(256),
 ];
 
-/// The fast twin's file.
-fn answer(text: &[u8]) -> File {
+/// The file of the fast twin, or of one that chooses another conflict.
+fn answer(by: &impl Interface, text: &[u8]) -> File {
     let mut words = [0; 5 * 265];
     let mut out = [0; out_length::VERDICT];
-    match Fast.read(text, &mut words, &mut out) {
-        0 => verdict(&words[..5 * out[0] as usize]),
+    match by.read(text, &mut words, &mut out) {
+        0 => verdict(by, &words[..5 * out[0] as usize]),
         refusal => File::short("refused", refusal),
     }
 }
 
-fn verdict(task: &[u64]) -> File {
+fn verdict(by: &impl Interface, task: &[u64]) -> File {
     let members = task[1] as usize;
     let (rows, most) = (members * copies_room(members), configurations_room(members));
     let (mut plans, mut ends, mut picks) = (vec![0; most + rows], vec![0; members], vec![0; most]);
     let mut out = [0; out_length::VERDICT];
     let (mut local, mut configurations) = ([0; LOCAL], [0; CONFIGURATIONS]);
     let (mut marks, mut trail) = (vec![0; rows], vec![0; 2 * most]);
-    let refusal = Fast.verdict(
+    let refusal = by.verdict(
         task,
         &mut local,
         &mut marks,
@@ -141,23 +142,18 @@ fn verdict(task: &[u64]) -> File {
         (0, [_, member, done]) => ("missed", member, done),
         (refusal, _) => ("refused", refusal, 0),
     };
-    let mut file = File::short(kind, number);
     if ["collision", "deadlock", "missed"].contains(&kind) {
-        let mut begin = 0;
-        for end in ends.into_iter().map(|end: u64| end as usize) {
-            file.plans.push(plans[begin..end].to_vec());
-            begin = end;
-        }
-        file.picks = picks[..played as usize].to_vec();
+        picks.truncate(played as usize);
+        return File::of_conflict(kind, number, &plans, &ends, picks);
     }
-    file
+    File::short(kind, number)
 }
 
 impl Broken {
     /// Its file for a text, of which the paper and the twin say this.
     fn file(self, text: &[u8], judged: &Judged, twin: &File) -> Vec<u8> {
         let misread = self.misread(text);
-        let mut file = if misread == text { twin.clone() } else { answer(&misread) };
+        let mut file = if misread == text { twin.clone() } else { answer(&Fast, &misread) };
         self.misjudge(judged, &mut file);
         let mut bytes = file.bytes();
         match self {
@@ -200,7 +196,7 @@ impl Broken {
         let members = task.as_ref().map_or(0, Task::members);
         let (kind, number) = (file.kind.clone(), file.number);
         let listed = match judged.answer {
-            Ok(Class::Robust(listed) | Class::NotRobust(listed, _)) => listed,
+            Ok(Class::Robust(listed) | Class::NotRobust(listed, ..)) => listed,
             _ => 0,
         };
         let found = |room| {
@@ -249,14 +245,20 @@ impl Broken {
 #[test]
 fn the_twin_passes_and_every_broken_program_is_found() {
     let mut unnoticed = ALL.to_vec();
+    let mut others = wrong::ALL.to_vec();
     let mut reached = Reached::default();
     for number in 0..fixed() + 1500 {
         let text = made(7, number);
-        let (judged, file) = (judge(&text), answer(&text));
-        let checked = judged.check(&file.bytes());
-        reached.count(&text, &judged, checked.as_ref().expect("the twin passes"));
+        let (judged, file) = (judge(&text), answer(&Fast, &text));
+        judged.check(&file.bytes()).expect("the twin passes");
+        reached.count(&text, &judged);
         unnoticed.retain(|broken| judged.check(&broken.file(&text, &judged, &file)).is_ok());
+        if !file.plans.is_empty() {
+            let same = |other: &Wrong| judged.check(&answer(other, &text).bytes()).is_ok();
+            others.retain(same);
+        }
     }
     assert_eq!(reached.missing(), Vec::<String>::new());
     assert_eq!(unnoticed, []);
+    assert_eq!(others.iter().map(|other| other.name).collect::<Vec<_>>(), Vec::<&str>::new());
 }

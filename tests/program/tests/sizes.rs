@@ -1,8 +1,10 @@
 //! The laws of exact size have the sizes that they are made for.
 
-use program::file::File;
+use program::file::judge;
 use program::sizes::{all, Size};
 use reference::fast::{copies, count_configurations, Copies, Task};
+use reference::generate::text::of_words;
+use reference::laws::l2;
 use reference::random::Random;
 
 /// More rows than any of these laws has.
@@ -44,23 +46,38 @@ fn each_law_has_its_size() {
     }
 }
 
+/// The file of a law, line by line, and that a file with anything else in it differs.
 #[test]
-fn a_file_is_read_back() {
-    let file =
-        File { plans: vec![vec![0, 1], vec![]], picks: vec![0, 1], ..File::short("collision", 1) };
-    assert_eq!(File::parse(&file.bytes()), Some(file.clone()));
-    for wrong in [
-        "collision,01",
-        "collision,1 ",
-        "collision,1\n",
-        "collision,1\r\nplan,1",
-        "collision,1\r\npick,0",
+fn a_conflict_is_expected_line_by_line() {
+    let text = of_words(&l2());
+    let lines = [
+        "verdict,number",
+        "collision,1",
+        "plan,0",
+        "action,0",
+        "action,1",
+        "plan,1",
+        "action,2",
+        "action,3",
+        "pick,0",
+        "pick,1",
+    ];
+    let file = lines.join("\r\n") + "\r\n";
+    let judged = judge(text.as_bytes());
+    assert_eq!(judged.check(file.as_bytes()), Ok(()));
+    for (line, other) in [
+        ("collision,1", "collision,01"),
+        ("collision,1", "collision,0"),
+        ("collision,1", "deadlock,1"),
+        ("plan,0", "plan,1"),
+        ("action,1", "action,0"),
+        ("action,3\r\n", ""),
+        ("pick,0", "pick,0\r\npick,0"),
+        ("pick,1\r\n", "pick,1\n"),
+        ("pick,1\r\n", "pick,1"),
+        ("pick,1\r\n", ""),
     ] {
-        let bytes = String::from_utf8(file.bytes()).expect("digits and letters").replacen(
-            "collision,1",
-            wrong,
-            1,
-        );
-        assert_eq!(File::parse(bytes.as_bytes()), None, "{wrong}");
+        let differs = judged.check(file.replacen(line, other, 1).as_bytes());
+        assert!(differs.is_err(), "{line:?} as {other:?}");
     }
 }

@@ -7,6 +7,7 @@
 //! * [`interface`]: the operations as the C interface lends them, one trait.
 //! * [`generate`]: laws, plans, picks and texts from fixed seeds, valid and damaged.
 //! * [`laws`]: L1 to L12 of the paper.
+//! * [`wrong`]: verdicts that choose another conflict, which the tests have to find.
 #![forbid(unsafe_code)]
 
 pub mod brute;
@@ -16,3 +17,4 @@ pub mod interface;
 pub mod laws;
 pub mod paper;
 pub mod random;
+pub mod wrong;

@@ -1,9 +1,11 @@
-//! L1 to L12 of the paper, and the programs that pass at first sight.
+//! L1 to L12 of the paper, the programs that pass at first sight, and laws that tell the parts of
+//! request F-2 from each other. Conflicts were worked out by hand from the words.
 
 use reference::fast::Fast;
 use reference::interface::Interface;
 use reference::laws::*;
 use reference::paper::conflict::Conflict;
+use reference::paper::interface::verdict_numbers;
 use reference::paper::run::{joint_replay, Outcome};
 use reference::paper::task::check;
 use reference::paper::verdict::{verdict, Class, Lent};
@@ -74,11 +76,29 @@ fn fast(task: &[u64]) -> Result<[u64; 3], u64> {
     Slices::of_words(4096, 8192).fast(task)
 }
 
-fn shows(task: &[u64], outcome: Outcome) {
-    match class(task) {
-        Ok(Class::NotRobust(_, shown)) => assert_eq!(Vec::from_iter(shown), [outcome]),
-        other => panic!("{other:?}"),
+/// Both implementations give this conflict: numbers, a plan for each member, and picks. It replays
+/// to its numbers, and zeros come after it.
+fn gives(task: &[u64], numbers: [u64; 3], plans: &[&[u16]], picks: &[u8]) {
+    let mut plain = Slices::of_words(64, 128);
+    let class = verdict(task, &mut plain.lent()).expect("a verdict");
+    assert_eq!(verdict_numbers(&class), numbers);
+    let mut fast = Slices::of_words(64, 128);
+    assert_eq!(fast.fast(task), Ok(numbers));
+
+    let list = plans.concat();
+    let ends: Vec<u64> =
+        (1..=plans.len()).map(|member| plans[..member].concat().len() as u64).collect();
+    for slices in [&plain, &fast] {
+        assert_eq!(slices.plans[..list.len()], list);
+        assert_eq!(slices.ends[..ends.len()], ends);
+        assert_eq!(slices.picks[..picks.len()], *picks);
+        assert!(slices.plans[list.len()..].iter().all(|&entry| entry == 0));
+        assert!(slices.ends[ends.len()..].iter().all(|&end| end == 0));
+        assert!(slices.picks[picks.len()..].iter().all(|&pick| pick == 0));
     }
+    let replay = joint_replay(task, &list, &ends, picks).expect("a replay");
+    let (kind, member) = paper::interface::outcome_numbers(replay.outcome);
+    assert_eq!([kind + 1, member, replay.done as u64], numbers);
 }
 
 fn replays(task: &[u64], plans: &[u16], ends: &[u64], picks: &[u8]) -> (Outcome, usize, u64) {
@@ -94,18 +114,12 @@ fn l1_is_robust() {
 
 #[test]
 fn l2_collides() {
-    shows(&l2(), Outcome::Collision);
-    assert_eq!(fast(&l2()), Ok([2, 0, 1]));
-    let (outcome, done, _) = replays(&l2(), &[0, 1, 2, 3], &[2, 4], &[0, 1]);
-    assert_eq!((outcome, done), (Outcome::Collision, 1));
+    gives(&l2(), [2, 0, 1], &[&[0, 1], &[2, 3]], &[0, 1]);
 }
 
 #[test]
 fn l3_deadlocks() {
-    shows(&l3(), Outcome::Deadlock);
-    assert_eq!(fast(&l3()), Ok([3, 0, 3]));
-    let (outcome, done, _) = replays(&l3(), &[0, 1, 0, 2, 3], &[3, 5], &[0, 0, 0]);
-    assert_eq!((outcome, done), (Outcome::Deadlock, 3));
+    gives(&l3(), [3, 0, 3], &[&[0, 1, 0], &[2, 3]], &[0, 0, 0]);
 }
 
 #[test]
@@ -124,14 +138,10 @@ fn l5_and_l6_have_no_action() {
 
 #[test]
 fn l7_misses_in_one_order() {
-    shows(&l7(), Outcome::Missed(0));
-    assert_eq!(fast(&l7()), Ok([4, 0, 2]));
+    gives(&l7(), [4, 0, 2], &[&[0], &[1]], &[0, 1]);
     assert_eq!(replays(&l7(), &[0, 1], &[1, 2], &[0, 1]), (Outcome::Missed(0), 2, 2));
     assert_eq!(replays(&l7(), &[0, 1], &[1, 2], &[1, 0]), (Outcome::Success, 2, 3));
-    match class(&l7()) {
-        Ok(Class::NotRobust(listed, _)) => assert_eq!(listed, 5),
-        other => panic!("{other:?}"),
-    }
+    assert_eq!(class(&l7()), Ok(Class::NotRobust(5, Outcome::Missed(0), 2)));
 }
 
 #[test]
@@ -181,7 +191,8 @@ fn conflicts_of_the_laws_are_as_asked() {
     let faults =
         [(l2(), Outcome::Collision), (l3(), Outcome::Deadlock), (l7(), Outcome::Missed(0))];
     for (law, outcome) in faults {
-        let Ok(Class::NotRobust(listed, _)) = class(&law) else { panic!("a fault") };
+        let Ok(Class::NotRobust(listed, told, _)) = class(&law) else { panic!("a fault") };
+        assert_eq!(told, outcome);
         let mut slices = Slices::of_words(64, 128);
         let [_, _, done] = slices.fast(&law).unwrap();
         let conflict = Conflict {
@@ -198,15 +209,133 @@ fn conflicts_of_the_laws_are_as_asked() {
     }
 }
 
+/// Member 0's step takes facts 0 and 1 away. Then one action of member 1 waits for fact 0, which
+/// would be a deadlock, and a higher one collides for want of fact 1.
+#[test]
+fn a_collision_comes_before_a_deadlock() {
+    let law = [
+        [4, 2, 3, 3, 0],
+        [0, 4, 0, 0, 0],
+        [1, 8, 0, 0, 0],
+        [1, 1, 1, 8, 0],
+        [1, 2, 0, 8, 0],
+        [0, 0, 0, 4, 3],
+    ];
+    gives(&law.concat(), [2, 0, 1], &[&[2], &[1]], &[0, 1]);
+    // Without the colliding action it is the deadlock.
+    let mut law = law.to_vec();
+    law.remove(4);
+    law[0][2] = 2;
+    gives(&law.concat(), [3, 0, 1], &[&[1], &[0]], &[0]);
+}
+
+/// After member 0's step actions 1 and 3 of member 2 collide, and action 2 of member 1.
+#[test]
+fn the_lowest_colliding_action_is_told_of_all_members() {
+    let law = [
+        [4, 3, 4, 1, 0],
+        [0, 2, 0, 0, 0],
+        [1, 4, 0, 0, 0],
+        [2, 8, 0, 0, 0],
+        [0, 0, 0, 2, 1],
+        [2, 1, 0, 8, 0],
+        [1, 1, 0, 4, 0],
+        [2, 1, 0, 8, 0],
+    ];
+    gives(&law.concat(), [2, 0, 1], &[&[0], &[2], &[1]], &[0, 2]);
+}
+
+/// After member 0's step members 1 and 2 can wait for fact 0. Member 1 has its goal and ends;
+/// member 2 lacks its own and has two waiting actions.
+#[test]
+fn a_member_with_its_goal_ends_where_another_lacks_its_own() {
+    let law = [
+        [3, 3, 4, 1, 0],
+        [0, 2, 0, 0, 0],
+        [1, 0, 0, 0, 0],
+        [2, 4, 0, 0, 0],
+        [1, 1, 1, 0, 0],
+        [2, 1, 1, 4, 0],
+        [0, 0, 0, 2, 1],
+        [2, 1, 1, 4, 0],
+    ];
+    gives(&law.concat(), [3, 0, 1], &[&[2], &[], &[1]], &[0]);
+}
+
+/// After member 0's step all have their goals, and members 1 and 2 can wait for fact 0. The lower
+/// member goes on, not the one with the lower action, and makes good what its action takes away.
+#[test]
+fn one_member_goes_on_where_all_have_their_goals() {
+    let mut law = [
+        [3, 3, 4, 5, 0],
+        [0, 2, 0, 0, 0],
+        [1, 4, 0, 0, 0],
+        [2, 0, 0, 0, 0],
+        [2, 1, 1, 0, 0],
+        [1, 1, 1, 0, 4],
+        [1, 0, 0, 4, 0],
+        [0, 0, 0, 2, 1],
+    ];
+    gives(&law.concat(), [3, 0, 1], &[&[3], &[1, 2], &[]], &[0]);
+    // Member 2 misses its goal there too, and deadlock comes first.
+    law[3][1] = 1;
+    gives(&law.concat(), [3, 0, 1], &[&[3], &[1, 2], &[]], &[0]);
+    // Without the waiting actions it is missed, after the same pick.
+    law[4][2] = 0;
+    law[4][1] = 0;
+    law[5][2] = 0;
+    law[5][1] = 0;
+    gives(&law.concat(), [4, 2, 1], &[&[3], &[], &[]], &[0]);
+}
+
+/// Two orders of two steps lead to one row, which action 0 of member 1 and then action 1 of member
+/// 0 list first.
+#[test]
+fn the_moves_that_first_listed_a_row_are_told() {
+    let law = [
+        [3, 3, 2, 1, 0],
+        [0, 2, 0, 0, 0],
+        [1, 4, 0, 0, 0],
+        [2, 1, 0, 0, 0],
+        [1, 0, 0, 4, 1],
+        [0, 0, 0, 2, 0],
+    ];
+    gives(&law.concat(), [4, 2, 2], &[&[1], &[0], &[]], &[1, 0]);
+    assert_eq!(replays(&law.concat(), &[1, 0], &[1, 2, 2], &[0, 1]).0, Outcome::Missed(2));
+}
+
+/// Member 1 collides by action 8. From there actions 3 6, 3 7 and 4 5 are shortest, and 1 2 5 is
+/// lower and longer.
+#[test]
+fn the_lowest_shortest_completion_is_told() {
+    let law = [
+        [8, 2, 9, 5, 0],
+        [0, 2, 0, 0, 0],
+        [1, 8, 0, 0, 0],
+        [0, 0, 0, 2, 1],
+        [1, 128, 0, 64, 128],
+        [1, 64, 0, 16, 64],
+        [1, 128, 0, 32, 128],
+        [1, 128, 0, 16, 128],
+        [1, 16, 0, 8, 16],
+        [1, 32, 0, 8, 32],
+        [1, 32, 0, 8, 32],
+        [1, 5, 0, 128, 4],
+    ];
+    gives(&law.concat(), [2, 0, 1], &[&[0], &[8, 3, 6]], &[0, 1]);
+}
+
 #[test]
 fn brute_force_on_the_laws() {
     let found = |law: &[u64]| brute::outcomes(&check(law).unwrap(), 3);
-    assert_eq!(found(&l1()), Some([Outcome::Success].into()));
-    assert_eq!(found(&l2()), Some([Outcome::Success, Outcome::Collision].into()));
-    assert_eq!(found(&l3()), Some([Outcome::Success, Outcome::Deadlock].into()));
+    assert_eq!(found(&l1()), Some([(Outcome::Success, 4)].into()));
+    assert_eq!(found(&l2()), Some([(Outcome::Success, 4), (Outcome::Collision, 1)].into()));
+    assert_eq!(found(&l3()), Some([(Outcome::Success, 4), (Outcome::Deadlock, 3)].into()));
     assert_eq!(found(&l4()), None);
-    assert_eq!(found(&l5()), Some([Outcome::Success].into()));
+    assert_eq!(found(&l5()), Some([(Outcome::Success, 0)].into()));
     assert_eq!(found(&l6()), None);
-    assert_eq!(found(&l7()), Some([Outcome::Success, Outcome::Missed(0)].into()));
-    assert_eq!(found(&l8()), Some([Outcome::Success].into()));
+    assert_eq!(found(&l7()), Some([(Outcome::Success, 2), (Outcome::Missed(0), 2)].into()));
+    assert_eq!(found(&l8()), Some([(Outcome::Success, 0)].into()));
+    let fewest = |law: &[u64]| brute::fewest(&found(law).unwrap());
+    assert_eq!([l1(), l2(), l3(), l7()].map(|law| fewest(&law)), [None, Some(1), Some(3), Some(2)]);
 }

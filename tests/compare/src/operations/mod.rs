@@ -7,7 +7,7 @@ mod run;
 pub mod sizes;
 mod solo;
 mod step;
-mod verdict;
+pub mod verdict;
 
 use crate::case::Checked;
 use reference::generate::{damage::damage, families};

@@ -6,8 +6,8 @@ use crate::case::Checked;
 use reference::generate::families::counters;
 use reference::generate::plans::Bundle;
 use reference::generate::sizes::{
-    amid, beside, digits, fault_after, fault_before, last_action, last_fact, last_unsolvable,
-    odometer, odometer_past, padded, records, scattered, sizes, Fault, Turns,
+    amid, beside, digits, doubled, fault_after, fault_before, last_action, last_fact,
+    last_unsolvable, odometer, odometer_past, padded, records, scattered, sizes, Fault, Turns,
 };
 use reference::generate::{contents, shuffle, text, Law};
 use reference::interface::Interface;
@@ -82,6 +82,8 @@ enum Made {
     VerdictSlack,
     VerdictFault(Fault),
     VerdictPlan(Fault),
+    VerdictMoves(Fault),
+    VerdictRest(Fault),
     ReadRecords,
     ReadNarrow,
     ReadBadRecord,
@@ -91,7 +93,7 @@ enum Made {
 use Made::*;
 
 /// Everything that a case is made for, with the largest size.
-const MADE: [(Made, usize); 59] = [
+const MADE: [(Made, usize); 62] = [
     (TaskFacts, FACTS),
     (TaskFactAbove, FACTS - 1),
     (TaskMembers, MEMBERS),
@@ -146,6 +148,9 @@ const MADE: [(Made, usize); 59] = [
     (VerdictFault(Fault::Missed), MISSED),
     (VerdictPlan(Fault::Collision), PICKS),
     (VerdictPlan(Fault::Deadlock), PICKS),
+    (VerdictMoves(Fault::Collision), PICKS),
+    (VerdictMoves(Fault::Missed), PICKS),
+    (VerdictRest(Fault::Deadlock), PICKS),
     (ReadRecords, RECORDS),
     (ReadNarrow, RECORDS),
     (ReadBadRecord, RECORDS),
@@ -338,6 +343,16 @@ impl Made {
             }
             VerdictPlan(fault) => {
                 let law = idled(random, fault_before(size, fault), 2);
+                judged(random, checked, law, [size + 2, 2 * size + 8])
+            }
+            // Every step with a choice between two actions.
+            VerdictMoves(fault) | VerdictRest(fault) => {
+                let law = match self {
+                    VerdictMoves(_) => fault_after(size, fault),
+                    _ => fault_before(size, fault),
+                };
+                let law = doubled(random, law);
+                let law = idled(random, law, 2);
                 judged(random, checked, law, [size + 2, 2 * size + 8])
             }
             ReadRecords | ReadNarrow => {

@@ -1,20 +1,20 @@
-//! The verdict: its class and tables, its conflict by replay in both implementations, runs played
-//! to the finish where it is robust, and brute force beside it where a law is small.
+//! The verdict: its numbers, tables and conflict, that conflict's replay in both implementations,
+//! runs played to the finish where it is robust, and brute force beside it where a law is small.
 
 use super::step::random_out;
 use super::task_words;
-use crate::case::{list, Checked, Class, Comparison, Input};
+use crate::case::{list, Checked, Comparison, Input};
 use crate::lent::Lent;
 use reference::brute;
 use reference::fast::{count_configurations, Copies};
 use reference::generate::plans::{Bundle, Planner};
 use reference::generate::{contents, length_near};
-use reference::interface::{out_length, Interface, TOO_SHORT};
+use reference::interface::{give, out_length, Interface, TOO_SHORT};
 use reference::paper::conflict::Conflict;
-use reference::paper::interface::outcome_numbers;
+use reference::paper::interface::{outcome_numbers, verdict_numbers};
 use reference::paper::run::{joint_replay, Outcome};
 use reference::paper::task::check;
-use reference::paper::verdict::{self as paper, Class as PaperClass};
+use reference::paper::verdict::{self as paper, Class as Answer};
 use reference::paper::Refusal;
 use reference::random::Random;
 
@@ -140,7 +140,7 @@ impl Slices {
     }
 
     /// The paper's answer on these slices.
-    fn expect(&mut self, words: &[u64]) -> Result<PaperClass, Refusal> {
+    fn expect(&mut self, words: &[u64]) -> Result<Answer, Refusal> {
         if self.out.len() < out_length::VERDICT {
             return Err(TOO_SHORT);
         }
@@ -153,7 +153,9 @@ impl Slices {
             ends: &mut self.ends,
             picks: &mut self.picks,
         };
-        paper::verdict(words, &mut lent)
+        let answer = paper::verdict(words, &mut lent)?;
+        give(&mut self.out, &verdict_numbers(&answer));
+        Ok(answer)
     }
 
     fn lengths(&self) -> Vec<(&'static str, String)> {
@@ -206,48 +208,34 @@ pub fn verdict_on(
     let returned = found.call(&words, checked);
 
     let mut comparison = Comparison::new("lawcheck_verdict");
+    let refusal = answer.as_ref().err().copied().unwrap_or(0);
+    comparison.answer((refusal, &expected.out), returned, &found.out);
     comparison.slice("local", &expected.local, &found.local);
     comparison.slice("marks", &expected.marks, &found.marks);
     comparison.slice("configurations", &expected.configurations, &found.configurations);
-    let refusal = answer.as_ref().err().copied().unwrap_or(0);
-    let numbers = match &answer {
-        Err(_) => None,
-        Ok(PaperClass::Robust(count)) => Some([0, 0, *count as u64]),
-        Ok(PaperClass::Unsolvable(member)) => Some([1, *member as u64, 0]),
-        Ok(PaperClass::NotRobust(..)) => None,
-    };
-    if let Some(numbers) = numbers {
-        expected.out[..numbers.len()].copy_from_slice(&numbers);
-    }
+    comparison.slice("plans", &expected.plans, &found.plans);
+    comparison.slice("ends", &expected.ends, &found.ends);
+    comparison.slice("picks", &expected.picks, &found.picks);
     if refusal == 0 {
         comparison.guards("trail", &found.trail);
     } else {
         comparison.slice("trail", &expected.trail, &found.trail);
     }
-    let class = match &answer {
-        Ok(PaperClass::NotRobust(listed, _)) => {
-            comparison.guards("plans", &found.plans);
-            comparison.guards("ends", &found.ends);
-            comparison.guards("picks", &found.picks);
-            let conflict = not_robust(&mut comparison, &words, *listed, returned, &found, checked);
-            // The rest of `out` stays as it was.
-            let given = &found.out.held()[..out_length::VERDICT];
-            expected.out[..out_length::VERDICT].copy_from_slice(given);
-            comparison.slice("out", &expected.out, &found.out);
-            Class::Answer(conflict.map_or(2, |outcome| outcome_numbers(outcome).0 + 1))
+    if let Ok(Answer::NotRobust(listed, ..)) = answer {
+        if let Err(difference) = replays(&words, listed, &expected, returned, &found, checked) {
+            comparison.differ(difference);
         }
-        _ => {
-            comparison.answer((refusal, &expected.out), returned, &found.out);
-            comparison.slice("plans", &expected.plans, &found.plans);
-            comparison.slice("ends", &expected.ends, &found.ends);
-            comparison.slice("picks", &expected.picks, &found.picks);
-            crate::case::class(refusal, numbers.map_or(0, |numbers| numbers[0]))
-        }
-    };
-    let small = words.len() >= 3 && words[0] <= 3 && words[1] <= 3 && words[2] <= 4;
-    if refusal == 0 && returned == 0 && small && random.chance(25) {
+    }
+    let class = crate::case::class(refusal, expected.out.first().copied().unwrap_or(0));
+    let small = words.len() >= 3 && words[0] <= 6 && words[1] <= 3 && words[2] <= 4;
+    // Every conflict of a small law, and some of the other verdicts.
+    let not_robust = matches!(answer, Ok(Answer::NotRobust(..)));
+    let beside = small && (not_robust || random.chance(25));
+    if refusal == 0 && returned == 0 && beside {
         comparison.brute = true;
-        if let Err(difference) = beside_brute_force(&words, &found) {
+        let out = found.out.held();
+        let numbers = [out[0], out[1], out[2]];
+        if let Err(difference) = beside_brute_force(&words, numbers, found.ends.held()) {
             comparison.differ(difference);
         }
     }
@@ -258,17 +246,16 @@ pub fn verdict_on(
         }
     }
     if comparison.differs() {
+        let all = |returned, out, plans, ends, picks| {
+            let [out, ends] = [out, ends].map(list::<u64>);
+            let (plans, picks) = (list::<u16>(plans), list::<u8>(picks));
+            format!("returns {returned}, out {out}, plans {plans}, ends {ends}, picks {picks}")
+        };
+        let Slices { out, plans, ends, picks, .. } = &expected;
         let held = &found;
-        let conflict = [list(held.plans.held()), list(held.ends.held()), list(held.picks.held())];
         comparison.set_answers(
-            format!("{answer:?}"),
-            format!(
-                "returns {returned}, out {}, plans {}, ends {}, picks {}",
-                list(held.out.held()),
-                conflict[0],
-                conflict[1],
-                conflict[2]
-            ),
+            all(refusal, out, plans, ends, picks),
+            all(returned, held.out.held(), held.plans.held(), held.ends.held(), held.picks.held()),
         );
     }
     comparison.close(class, || (Input::Task(words), entry.lengths()))
@@ -284,43 +271,38 @@ fn stated(out: &[u64]) -> Option<Outcome> {
     }
 }
 
-/// The conflict that was found: as the paper asks, and replayed in both implementations.
-fn not_robust(
-    comparison: &mut Comparison,
+/// A conflict by its replay: the paper's own has to be as every conflict is, and the one that was
+/// found has to end as told in the joint replay of the implementation that found it.
+fn replays(
     words: &[u64],
     listed: usize,
+    expected: &Slices,
     returned: u64,
     found: &LentSlices,
     checked: &impl Interface,
-) -> Option<Outcome> {
-    let out = found.out.held();
-    let (0, Some(outcome)) = (returned, stated(out)) else {
-        comparison.differ("the law is not robust".into());
-        return None;
-    };
+) -> Result<(), String> {
     let members = words[1] as usize;
-    let conflict = Conflict {
-        outcome,
-        done: out[2],
-        plans: found.plans.held(),
-        ends: found.ends.held(),
-        picks: found.picks.held(),
+    let Slices { out, plans, ends, picks, .. } = expected;
+    let outcome = stated(out).ok_or("the second implementation's numbers are no fault's")?;
+    Conflict { outcome, done: out[2], plans, ends, picks }
+        .check(words, members, listed)
+        .map_err(|difference| format!("the second implementation's conflict: {difference}"))?;
+    let (out, plans) = (found.out.held(), found.plans.held());
+    let (ends, picks) = (found.ends.held(), found.picks.held());
+    let (0, Some(outcome)) = (returned, stated(out)) else {
+        return Err("the law is not robust".into());
     };
-    if let Err(difference) = conflict.check(words, members, listed) {
-        comparison.differ(format!("the conflict: {difference}"));
-        return Some(outcome);
+    let conflict = Conflict { outcome, done: out[2], plans, ends, picks };
+    let (plans, ends, picks) =
+        conflict.replayed(members).ok_or("the conflict goes past its slices")?;
+    let mut replayed = [0; out_length::JOINT_REPLAY];
+    let refusal = checked.joint_replay(words, plans, ends, picks, &mut replayed);
+    let (kind, member) = outcome_numbers(outcome);
+    if refusal != 0 || replayed[..3] != [kind, member, out[2]] {
+        let text = list(&replayed);
+        return Err(format!("its own replay of the conflict: returns {refusal}, out {text}"));
     }
-    if let Some((plans, ends, picks)) = conflict.replayed(members) {
-        let mut replayed = [0; out_length::JOINT_REPLAY];
-        let refusal = checked.joint_replay(words, plans, ends, picks, &mut replayed);
-        let (kind, member) = outcome_numbers(outcome);
-        if refusal != 0 || replayed[..3] != [kind, member, out[2]] {
-            let text = list(&replayed);
-            comparison
-                .differ(format!("its own replay of the conflict: returns {refusal}, out {text}"));
-        }
-    }
-    Some(outcome)
+    Ok(())
 }
 
 /// Some runs of a law that was found robust, played to the finish: each has to be a success.
@@ -342,11 +324,11 @@ fn beside_played_runs(random: &mut Random, words: &[u64]) -> Result<(), String> 
     Ok(())
 }
 
-/// Brute force over short plans against the class that was found.
-fn beside_brute_force(words: &[u64], found: &LentSlices) -> Result<(), String> {
+/// Brute force over short plans against the numbers of a verdict and the ends of its plans: the
+/// class, and that no run comes to a fault after fewer picks.
+pub fn beside_brute_force(words: &[u64], out: [u64; 3], ends: &[u64]) -> Result<(), String> {
     let task = check(words).map_err(|refusal| format!("refused with {refusal}"))?;
     let longest = if task.members() <= 2 { 4 } else { 3 };
-    let out = found.out.held();
     if out[0] == 1 {
         return match brute::plans(&task, out[1] as usize, longest).first() {
             Some(plan) => Err(format!("brute force finds the plan {}", list(plan))),
@@ -356,19 +338,24 @@ fn beside_brute_force(words: &[u64], found: &LentSlices) -> Result<(), String> {
     let Some(outcomes) = brute::outcomes(&task, longest) else {
         return Ok(());
     };
-    let fault = outcomes.iter().find(|&&outcome| outcome != Outcome::Success);
-    match (stated(out), fault) {
-        (None, Some(fault)) => Err(format!("brute force finds {fault:?}")),
-        (Some(outcome), _) => {
-            // A conflict with plans this short is among the runs that brute force goes through.
-            let ends = &found.ends.held()[..task.members()];
-            let begins = [&[0], ends].concat();
-            let short = ends.iter().zip(begins).all(|(end, begin)| end - begin <= longest as u64);
-            if short && !outcomes.contains(&outcome) {
-                return Err(format!("brute force does not find {outcome:?}"));
-            }
-            Ok(())
-        }
-        _ => Ok(()),
+    let fewest = brute::fewest(&outcomes);
+    let Some(outcome) = stated(&out) else {
+        return match fewest {
+            Some(_) => Err(format!("brute force finds {outcomes:?}")),
+            None => Ok(()),
+        };
+    };
+    let told = out[2] as usize;
+    if let Some(fewer) = fewest.filter(|&fewest| fewest < told) {
+        return Err(format!("brute force finds a fault after {fewer} picks, not {told}"));
     }
+    // A conflict with plans this short is among the runs that brute force goes through.
+    let ends = &ends[..task.members()];
+    let begins = [&[0], ends].concat();
+    let short =
+        ends.iter().zip(begins).all(|(end, begin)| end.saturating_sub(begin) <= longest as u64);
+    if short && outcomes.get(&outcome) != Some(&told) {
+        return Err(format!("brute force does not find {outcome:?} after {told} picks"));
+    }
+    Ok(())
 }

@@ -77,7 +77,7 @@ pub fn outcome(
     }
 }
 
-pub(super) fn joint_replay(
+pub fn joint_replay(
     task: &[u64],
     plans: &[u16],
     ends: &[u64],

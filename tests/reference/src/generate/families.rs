@@ -6,12 +6,13 @@ use crate::random::Random;
 
 /// A small law, for which every operation is quick.
 pub fn small(random: &mut Random) -> Vec<u64> {
-    match random.below(10) {
+    match random.below(12) {
         0..=2 => tiny(random).words(),
         3..=4 => any(random, 5, 3, 8).words(),
         5..=6 => tokens(random, 3, 2).words(),
         7 => near_the_laws(random),
         8 => chains(random, 3, 4).words(),
+        9..=10 => choices(random).words(),
         _ => {
             let law = tokens(random, 2, 2);
             widened(random, law, 16, 4, 16).words()
@@ -134,6 +135,41 @@ pub fn tokens(random: &mut Random, members: usize, tokens: usize) -> Law {
             law.actions.push([member as u64, done(member), 0, 0, undone]);
         }
     }
+    law
+}
+
+/// Members who each go from place to place by one way or another and back, some of the steps with a
+/// shared fact that others take away: laws of which many conflicts replay, and one is told.
+pub fn choices(random: &mut Random) -> Law {
+    let members = random.between(2, 3);
+    let shared = random.between(1, 2);
+    let places = random.between(1, 4);
+    let place = |member: usize, number: usize| 1u64 << (shared + member * places + number);
+    let facts = shared + members * places;
+    let mut law = Law { facts, initial: all(shared), goals: Vec::new(), actions: Vec::new() };
+    let waits = random.one_of(&[0, 60, 90, 90]);
+    for member in 0..members {
+        law.initial |= place(member, 0);
+        let goal = if random.chance(50) { 0 } else { place(member, random.below(places)) };
+        law.goals.push(goal | if random.chance(20) { few(random, shared, 1) } else { 0 });
+        let mut step = |random: &mut Random, from: usize, to: usize| {
+            let needs = if random.chance(50) { few(random, shared, 2) } else { 0 };
+            let wait = if random.chance(waits) { needs } else { 0 };
+            let takes = if random.chance(30) { few(random, shared, 2) } else { 0 };
+            let gives = if random.chance(10) { few(random, shared, 2) } else { 0 };
+            let [here, there] = [from, to].map(|number| place(member, number));
+            law.actions.push([member as u64, here | needs, wait, there | gives, here | takes]);
+        };
+        for to in 1..places {
+            let from = random.below(to);
+            step(random, from, to);
+        }
+        for _ in 0..random.between(1, 4) {
+            let (from, to) = (random.below(places), random.below(places));
+            step(random, from, to);
+        }
+    }
+    shuffle(random, &mut law.actions);
     law
 }
 

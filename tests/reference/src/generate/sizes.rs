@@ -229,6 +229,13 @@ pub fn padded(law: Law, actions: usize) -> Law {
     }
 }
 
+/// The same law with each action twice, in any order: whatever one does, another does too.
+pub fn doubled(random: &mut Random, law: Law) -> Law {
+    let mut actions = law.actions.repeat(2);
+    shuffle(random, &mut actions);
+    Law { actions, ..law }
+}
+
 /// The odometer with a goal on the way: every row after it is dead.
 pub fn odometer_past(rows: usize, goal: usize) -> Law {
     let mut law = odometer(rows);

@@ -1,9 +1,10 @@
 //! The operations as the C interface lends them: a refusal number or 0, and the answer's numbers in
-//! `out`. The verdict stands apart, since its conflict is free.
+//! `out`. The verdict stands apart, with its many slices.
 
 use super::run::{self, Outcome, Pick, RUN};
 use super::solo::{self, Replay};
 use super::step::{self, Step};
+use super::verdict::Class;
 use super::{pddl, task, text};
 use crate::interface::{give, out_length, TOO_SHORT};
 
@@ -15,6 +16,18 @@ pub fn outcome_numbers(outcome: Outcome) -> (u64, u64) {
         Outcome::Deadlock => (2, 0),
         Outcome::Missed(member) => (3, member as u64),
         Outcome::Open => (4, 0),
+    }
+}
+
+/// The numbers of a verdict.
+pub fn verdict_numbers(class: &Class) -> [u64; 3] {
+    match *class {
+        Class::Robust(count) => [0, 0, count as u64],
+        Class::Unsolvable(member) => [1, member as u64, 0],
+        Class::NotRobust(_, outcome, done) => {
+            let (kind, member) = outcome_numbers(outcome);
+            [kind + 1, member, done as u64]
+        }
     }
 }
 
