@@ -221,10 +221,25 @@ uint64_t lawcheck_play(const uint64_t *task, size_t task_len,
  * After an answer the local table and the marks hold what lawcheck_solo_search gives, member i's
  * from row i * K; the configuration table holds the configurations in breadth order (none after
  * unsolvable); unused entries are zero. The trail is room to work in and holds anything. After a
- * fault plans, ends and picks hold a conflict, then zeros: the plans, the end of each, and the
- * picks with a colliding one last. Its replay by lawcheck_joint_replay, lent the plans up to the
- * last end, n ends, and the picks up to the number with a colliding one after them, ends in that
- * kind, member and number. Where there is no fault all three are zero.
+ * fault plans, ends and picks hold the first conflict, then zeros: the plans, the end of each, and
+ * the picks with a colliding one last. Its replay by lawcheck_joint_replay, lent the plans up to
+ * the last end, n ends, and the picks up to the number with a colliding one after them, ends in
+ * that kind, member and number. Where there is no fault all three are zero.
+ *
+ * The first conflict is that of the first configuration in breadth order that shows a fault. It
+ * comes there by the moves that first listed the rows: each row from the first one from which a
+ * move leads to it, by the lowest action that does. No run that fails, whatever its plans, has
+ * fewer picks that go before its fault. An action may be its member's next one there if the local
+ * copy has its preconditions and the new local copy is live. The fault is, first that is shown: a
+ * collision of such an action, the lowest of any member; a deadlock; a goal missed. After the moves
+ * each plan goes on so:
+ * - collision: that member takes that action, and all complete their plans;
+ * - deadlock: each member whose local copy lacks its goal takes its lowest waiting action and
+ *   completes its plan, the others end; where none lacks its goal, the lowest member that has a
+ *   waiting action does so, the others end;
+ * - missed: all end.
+ * A plan is completed by as few steps as lead to the member's goal, at each step by the lowest
+ * action that leaves the fewest. The conflict is the task's, whatever the lengths of the slices.
  *
  * out: 0 robust, 1 unsolvable, 2 collision, 3 deadlock, 4 missed; the member (unsolvable: the
  * lowest whose I is dead; missed); the number (robust: configurations; a fault: picks done before

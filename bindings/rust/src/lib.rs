@@ -339,8 +339,9 @@ impl Room {
         }
     }
 
-    /// After a fault: the plans up to the last end, and the picks, a colliding one included. They
-    /// are what [`joint_replay`] is lent, with the ends.
+    /// After a fault, the first conflict: the plans up to the last end, and the picks, a colliding
+    /// one included. They are what [`joint_replay`] is lent, with the ends. The header says what
+    /// first means; it is the task's, whatever the room.
     pub fn conflict(&self, verdict: Verdict) -> Option<(&[u16], &[u8])> {
         let picks = match verdict {
             Verdict::Collision { picks } => picks + 1,

@@ -12,7 +12,7 @@ use Rattle.semantics.specs.Step.{step}
 use Rattle.semantics.specs.Solo.{soloReplay, soloSearch, SoloSearch}
 use Rattle.semantics.specs.Run.{jointReplay, pickOn}
 use Rattle.semantics.specs.Run as Paper
-use Rattle.semantics.specs.PddlWrite.{Lengths, Writing}
+use Rattle.semantics.specs.PddlWrite.{Writing}
 use Rattle.semantics.specs.Text.{Reading}
 use Rattle.semantics.specs.Verdict.{Slices, VerdictMeans}
 use Rattle.mask.specs.Number.{number}

@@ -26,7 +26,7 @@ unlessShort false before after = after
 abbrev pub called : {A : Type 0} → Bool → (A → List ℕ) → List ℕ → Answer A → Call
 called short numbers out answer = unlessShort short (call 14 out) (told numbers out answer)
 
--- the same of the verdict, whose conflict and trail are free
+-- the same of the verdict, whose trail is free
 abbrev pub verdictCall : Bool → List ℕ → Slices → Slices → (Verdict Failing → List ℕ) → List ℕ → Call → Type 0
 verdictCall true t before after numbers out c = (c ≡ call 14 out) × (after ≡ before)
 verdictCall false t before after numbers out c =

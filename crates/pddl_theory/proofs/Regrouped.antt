@@ -13,10 +13,10 @@ use Rattle.semantics.specs.Task.{check, members, initial, actionWord}
 use Rattle.semantics.specs.System.{Lawful, system, waits}
 use Rattle.semantics.specs.Model.{Robust}
 use Rattle.semantics.specs.Verdict.{Room, localRows, configurationRows, tooShort, unsolvable, notRobust, robust}
-use Rattle.semantics.specs.Verdict.{Finding, verdictIn, verdict}
+use Rattle.semantics.specs.Verdict.{Verdict, Conflict, verdictIn, verdict}
 use Rattle.semantics.specs.Demands.{setting, Solvable, Lists, Exceed, Configured, CopiesExceed, VerdictSearch}
 use Rattle.semantics.specs.PddlWrite.{grouped}
-use Rattle.semantics.specs.PddlDemands.{Groups}
+use Rattle.semantics.specs.PddlDemands.{classOf, answerClass, Groups}
 use Rattle.theory.proofs.Lists.{apart, bool-cases}
 use Rattle.theory.proofs.Refusals.{else-both, if-false, refused-gives, gives-inj, unless-gives}
 use Rattle.theory.proofs.Accepted.{accepted, accepted-lawful}
@@ -47,7 +47,7 @@ module _ (t : List ℕ) (room : Room) (ok : check t ≡ 0) where
   unfolding verdict
   short-refused e = rw (ok, e)
 
-  module _ {v : Finding} (e : verdict t room ≡ gives v) where
+  module _ {v : Verdict Conflict} (e : verdict t room ≡ gives v) where
     answered : (tooShort t room ≡ false) × (verdictIn (system t) (waits t) K C ≡ gives v)
     unfolding verdict
     answered =
@@ -73,11 +73,11 @@ module _ (t : List ℕ) (room : Room) (ok : check t ≡ 0) where
             let (π, l) = liveFor-sound (system t) (waits t) lawful K j (initial t) h (s .solvable j h) in
             (π, leads-solution t j π l)
 
-        at : (x : Answer Finding) → Found (system t) (waits t) lawful K C x → x ≡ gives v → AllSolvable t
+        at : (x : Answer (Verdict Conflict)) → Found (system t) (waits t) lawful K C x → x ≡ gives v → AllSolvable t
         at x (Found.copies-full h l) q = absurd (refused-gives q)
         at x (Found.configurations-full fits live l) q = absurd (refused-gives q)
         at x (Found.dead {i = i} fits h dead lower) q = absurd (n i (sym (gives-inj q)))
-        at x (Found.faulty s m shown) q = by s
+        at x (Found.faults-shown s f) q = by s
         at x (Found.faultless s none) q = by s
 
 -- ---- two tasks
@@ -121,7 +121,7 @@ module _ (t u : List ℕ) (s : Alike t u) where
   configured-alike c x = configured-renumbered t u (s .to) (s .forth) (accepted t (s .checked) .owner-member) x
 
 module _ {t u : List ℕ} (s : Alike t u) (room room′ : Room) where
-  unsolvable-alike : {i : ℕ} {v : Finding} → verdict t room ≡ gives (unsolvable i) → verdict u room′ ≡ gives v
+  unsolvable-alike : {i : ℕ} {v : Verdict Conflict} → verdict t room ≡ gives (unsolvable i) → verdict u room′ ≡ gives v
       → v ≡ unsolvable i
   unsolvable-alike {i} e e′ =
       let (fit, l, none, lower) = searched t room (s .checked) e .unsolvable i .0 e in
@@ -135,7 +135,8 @@ module _ {t u : List ℕ} (s : Alike t u) (room room′ : Room) where
         λ j h. solvable-renumbered t u (s .to) (s .forth) j (omega arith) (lower j h),
       ))
 
-  robust-same : {n : ℕ} {v : Finding} → verdict t room ≡ gives (robust n) → verdict u room′ ≡ gives v → v ≡ robust n
+  robust-same : {n : ℕ} {v : Verdict Conflict} → verdict t room ≡ gives (robust n) → verdict u room′ ≡ gives v
+      → v ≡ robust n
   robust-same {n} {v} e e′ =
       let all = solvable t room (s .checked) e (λ i q. apart (cc)) in
       let all′ = all-solvable t u s all in
@@ -152,12 +153,12 @@ module _ {t u : List ℕ} (s : Alike t u) (room room′ : Room) where
       let same : k ≡ n = omega (arith, p, p′, c, c′) in
       q ∙ ap robust same
 
-finding-same : {t u : List ℕ} (s : Alike t u) (room room′ : Room) (v v′ : Finding) → verdict t room ≡ gives v
-    → verdict u room′ ≡ gives v′ → v ≡ v′
-finding-same s room room′ (unsolvable i) v′ e e′ = sym (unsolvable-alike s room room′ e e′)
-finding-same s room room′ (robust n) v′ e e′ = sym (robust-same s room room′ e e′)
-finding-same s room room′ (notRobust x) (unsolvable i) e e′ = unsolvable-alike (turned s) room′ room e′ e
-finding-same s room room′ (notRobust x) (robust n) e e′ = robust-same (turned s) room′ room e′ e
+finding-same : {t u : List ℕ} (s : Alike t u) (room room′ : Room) (v v′ : Verdict Conflict) → verdict t room ≡ gives v
+    → verdict u room′ ≡ gives v′ → classOf v ≡ classOf v′
+finding-same s room room′ (unsolvable i) v′ e e′ = ap classOf (sym (unsolvable-alike s room room′ e e′))
+finding-same s room room′ (robust n) v′ e e′ = ap classOf (sym (robust-same s room room′ e e′))
+finding-same s room room′ (notRobust x) (unsolvable i) e e′ = ap classOf (unsolvable-alike (turned s) room′ room e′ e)
+finding-same s room room′ (notRobust x) (robust n) e e′ = ap classOf (robust-same (turned s) room′ room e′ e)
 finding-same s room room′ (notRobust x) (notRobust y) e e′ = refl
 
 -- ---- with the same room
@@ -187,19 +188,21 @@ refusal-same {t} s room k long e =
     let nine : k ≡ 9 = verdict-searches t room (s .checked) long .noOther k e in
     full-same s room long (e ∙ ap refused nine) ∙ ap refused (sym nine)
 
-answer-same : {t u : List ℕ} (s : Alike t u) (room : Room) → verdict t room ≡ verdict u room
+answer-same : {t u : List ℕ} (s : Alike t u) (room : Room) → answerClass (verdict t room) ≡ answerClass (verdict u room)
 answer-same {t} {u} s room =
     ⊎-elim
-    (λ e. short-refused t room (s .checked) e
-    ∙ sym (short-refused u room (s .checks) (sym (short-same s room) ∙ e)))
+    (λ e. ap answerClass (short-refused t room (s .checked) e
+    ∙ sym (short-refused u room (s .checks) (sym (short-same s room) ∙ e))))
     (λ e. by e (verdict t room) (verdict u room) refl refl)
     (bool-cases (tooShort t room))
   where
-    by : tooShort t room ≡ false → (x y : Answer Finding) → verdict t room ≡ x → verdict u room ≡ y
-        → verdict t room ≡ verdict u room
-    by long (refused k) y e e′ = e ∙ sym (refusal-same s room k long e)
-    by long (gives v) (refused k) e e′ = refusal-same (turned s) room k (sym (short-same s room) ∙ long) e′ ∙ sym e′
-    by long (gives v) (gives w) e e′ = e ∙ ap gives (finding-same s room room v w e e′) ∙ sym e′
+    by : tooShort t room ≡ false → (x y : Answer (Verdict Conflict)) → verdict t room ≡ x → verdict u room ≡ y
+        → answerClass (verdict t room) ≡ answerClass (verdict u room)
+    by long (refused k) y e e′ = ap answerClass (e ∙ sym (refusal-same s room k long e))
+    by long (gives v) (refused k) e e′ =
+        ap answerClass (refusal-same (turned s) room k (sym (short-same s room) ∙ long) e′ ∙ sym e′)
+    by long (gives v) (gives w) e e′ =
+        ap answerClass e ∙ ap gives (finding-same s room room v w e e′) ∙ ap answerClass (sym e′)
 
 -- ---- the grouped task
 

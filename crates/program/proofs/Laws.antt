@@ -16,24 +16,26 @@ use Rattle.semantics.specs.Base.{padded, zeroed}
 use Rattle.semantics.specs.Task.{rowWidth, check, members}
 use Rattle.semantics.specs.Text.{mostRecords, records, fields, number, isField, isRecord, isText, textWords, Reading}
 use Rattle.semantics.specs.Text.{refusedWith, readRecords, readText}
-use Rattle.semantics.specs.Run.{beginning, endsFit, plansOf, plansRefusal, Replay, replay, jointReplay}
+use Rattle.semantics.specs.Run.{beginning, endsFrom, endsFit, plansOf, plansRefusal, Replay, replay, jointReplay}
 use Rattle.semantics.specs.System.{system, waits}
-use Rattle.semantics.specs.Verdict.{Verdict, unsolvable, notRobust, robust, Finding, Failing, Slices, room, tooShort}
-use Rattle.semantics.specs.Verdict.{Conflict, listedFor, VerdictIs, VerdictMeans, localRows, configurationRows}
-use Rattle.semantics.specs.Verdict.{verdictIn, verdict, lentOf}
+use Rattle.semantics.specs.Verdict.{Verdict, unsolvable, notRobust, robust, Failing, Conflict, Slices, room, tooShort}
+use Rattle.semantics.specs.Verdict.{listedFor, Judged, judgedBy, verdictOn, VerdictIs, VerdictMeans, localRows}
+use Rattle.semantics.specs.Verdict.{configurationRows, verdictIn, verdict, lentOf}
+use Rattle.semantics.specs.Demands.{Carries, Replays}
 use Rattle.theory.proofs.Laid.{Laid}
 use Rattle.theory.proofs.Lists.{and-elim}
 use Rattle.theory.proofs.Refusals.{else-both, if-not-true, refused-gives, gives-inj, unless-gives}
 use Rattle.theory.proofs.Accepted.{accepted, accepted-lawful}
 use Rattle.theory.proofs.Verdict.{Found, found}
+use Rattle.theory.proofs.Demand3.{given-answer, demand3-answer}
 use Rattle.text.specs.Post.{mostWords, reading}
 use Rattle.text.specs.declared.TextRead.{TextRead}
 use Rattle.text.specs.declared.TextRead.the-variants.{Refused, Gives}
 use Rattle.run_plans.proofs.Laws.{part}
 use Rattle.report.specs.File.{word, header, line, file}
 use Rattle.report.specs.Inner.Put.{mostFile, Holds}
-use Rattle.program.specs.Program.{localWords, configurationWords, K, C, lentFor, Reports, PrintsFor, Prints}
-use Rattle.program.specs.Program.{AtFront}
+use Rattle.program.specs.Program.{localWords, configurationWords, K, C, lentFor, reported, printedFor}
+use Rattle.program.specs.Program.{printed, AtFront}
 use Rattle.program.specs.Inner.Most.{mostBytes}
 
 -- ---- lengths
@@ -107,7 +109,7 @@ pub refused-nine : (t : List ℕ) → check t ≡ 0 → (after : Slices) (answer
 unfolding verdict
 refused-nine t ok after answer k m e = at (verdict t (room (lentFor t))) refl m
   where
-    found-in : Answer Finding
+    found-in : Answer (Verdict Conflict)
     found-in =
         verdictIn (system t) (waits t) (localRows t (room (lentFor t) .localTable))
         (configurationRows t (room (lentFor t) .configurationTable))
@@ -118,47 +120,46 @@ refused-nine t ok after answer k m e = at (verdict t (room (lentFor t))) refl m
         ap (λ (r : ℕ). unless (r else (14 if short)) found-in) ok
         ∙ ap (λ (b : Bool). unless (14 if b) found-in) (long-enough t)
 
-    nine : (j : ℕ) (x : Answer Finding)
+    nine : (j : ℕ) (x : Answer (Verdict Conflict))
         → Found (system t) (waits t) (accepted-lawful t ok) (localRows t (room (lentFor t) .localTable))
         (configurationRows t (room (lentFor t) .configurationTable)) x
         → x ≡ refused j → j ≡ 9
     nine j x (Found.copies-full h l) g = cc
     nine j x (Found.dead fits h dead lower) g = absurd (refused-gives (sym g))
     nine j x (Found.configurations-full fits live l) g = cc
-    nine j x (Found.faulty s m shown) g = absurd (refused-gives (sym g))
+    nine j x (Found.faults-shown s f) g = absurd (refused-gives (sym g))
     nine j x (Found.faultless s none) g = absurd (refused-gives (sym g))
 
-    at : (f : Answer Finding) → verdict t (room (lentFor t)) ≡ f → VerdictIs t (lentFor t) after answer f → k ≡ 9
+    refused-inj : {i j : ℕ} → _≡_ {A = Answer (Verdict Failing)} (refused i) (refused j) → i ≡ j
+    refused-inj q = cc
+
+    at : (f : Answer (Verdict Conflict)) → verdict t (room (lentFor t)) ≡ f → VerdictIs t (lentFor t) after answer f
+        → k ≡ 9
     at (refused j) g m =
-        let same : j ≡ k = cc (sym (m .0) ∙ e) in
+        let same : j ≡ k = refused-inj (sym (ap (λ (x : Judged). x .answer) (m .same)) ∙ e) in
         sym same ∙ nine j found-in
         (found (system t) (waits t) (accepted-lawful t ok) (localRows t (room (lentFor t) .localTable))
         (configurationRows t (room (lentFor t) .configurationTable))) (sym searched ∙ g)
-    at (gives (unsolvable i)) g m = absurd (refused-gives (sym e ∙ m .0))
-    at (gives (robust c)) g m = absurd (refused-gives (sym e ∙ m .0))
-    at (gives (notRobust u)) g m = absurd (refused-gives (sym e ∙ m .1))
+    at (gives v) g m = absurd (refused-gives (sym e ∙ given-answer m))
 
 -- ---- what is put lies in the slice
 
-at-front : {P : List ℕ → Type 0} {bytes before after : List ℕ} {r : ℕ} → P bytes → Laid bytes before 0 after r
-    → AtFront P before after r
-at-front {bytes = bytes} {before = before} means l =
+at-front : {bytes before after : List ℕ} {r : ℕ} → Laid bytes before 0 after r → AtFront bytes before after r
+at-front {bytes} {before} l =
     let counted = l .ends ∙ zero-add (length bytes) in
     record {
-      bytes = bytes;
-      means = means;
       count = counted;
       inside = l .inside;
       held = l .held ∙ ap (λ (k : ℕ). bytes ++ drop k before) counted;
     }
 
-pub front-within : {P : List ℕ → Type 0} {before after : List ℕ} {r : ℕ} → AtFront P before after r → r ≤ length after
-front-within {before = before} f =
+pub front-within : {bytes before after : List ℕ} {r : ℕ} → AtFront bytes before after r → r ≤ length after
+front-within {bytes} {before} f =
     omega (
       arith,
       f .count,
       ap length (f .held),
-      length-append (f .bytes) (drop (length (f .bytes)) before),
+      length-append bytes (drop (length bytes) before),
     )
 
 -- ---- the slices of a conflict
@@ -190,53 +191,67 @@ ends-many n plans ends fit =
     (and-elim (eqb (length ends) n && allOf (λ j. leb (beginning ends j) (getD ends j 0)) (upTo n)) _ fit .0) .0)
 
 module _ (t : List ℕ) (before after : Slices) (answer : Answer (Verdict Failing)) where
-  conflict-holds : (told : Failing) (listed : ℕ) → Conflict t told listed before after
+  conflict-holds : (told : Failing) (listed : ℕ) (c : Conflict) → Carries told c before after → Replays t listed c
       → Holds (gives (notRobust told)) (members t) (after .plans) (after .ends) (after .picks)
-  conflict-holds told listed c =
+  conflict-holds told listed c h r =
       let n = members t in
-      let fit : endsFit n (c .plans) (c .ends) ≡ true = replays-fit t (c .plans) (c .ends) (c .picks) (c .replays) in
-      let many : length (c .ends) ≡ n = ends-many n (c .plans) (c .ends) fit in
-      let part-of = part n (c .plans) (c .ends) fit in (
+      let plans = flatten (c .plans) in
+      let ends = endsFrom 0 (c .plans) in
+      let fit : endsFit n plans ends ≡ true = replays-fit t plans ends (c .picks) (r .replays) in
+      let many : length ends ≡ n = ends-many n plans ends fit in
+      let part-of = part n plans ends fit in (
         record {
-          enough = rw (c .endsHeld) (omega (arith, padded-long (length (before .ends)) (c .ends), many));
+          enough = rw (h .ends) (omega (arith, padded-long (length (before .ends)) ends, many));
           ordered = λ j l.
               let p = part-of j l in
               rw (
-                c .endsHeld,
-                padded-beginning (length (before .ends)) (c .ends) j (omega (arith, p .many)),
-                padded-at (length (before .ends)) (c .ends) j (omega (arith, p .many)),
+                h .ends,
+                padded-beginning (length (before .ends)) ends j (omega (arith, p .many)),
+                padded-at (length (before .ends)) ends j (omega (arith, p .many)),
               )
               (p .begins);
           within = λ j l.
               let p = part-of j l in
-              rw (c .endsHeld, c .plansHeld, padded-at (length (before .ends)) (c .ends) j (omega (arith, p .many)))
-              (omega (arith, p .within, padded-long (length (before .plans)) (c .plans)));
+              rw (h .ends, h .plans, padded-at (length (before .ends)) ends j (omega (arith, p .many)))
+              (omega (arith, p .within, padded-long (length (before .plans)) plans));
         },
-        rw (c .picksHeld) (omega (arith, c .pickCount, padded-long (length (before .picks)) (c .picks))),
+        rw (h .isTold, h .picks) (omega (arith, r .pickCount, padded-long (length (before .picks)) (c .picks))),
       )
 
   pub holds : VerdictMeans t before after answer → Holds answer (members t) (after .plans) (after .ends) (after .picks)
-  holds = at (verdict t (room before))
+  holds means = at answer refl
     where
-      at : (f : Answer Finding) → VerdictIs t before after answer f
-          → Holds answer (members t) (after .plans) (after .ends) (after .picks)
-      at (refused k) m = rw (m .0) tt
-      at (gives (unsolvable i)) m = rw (m .0) tt
-      at (gives (robust c)) m = rw (m .0) tt
-      at (gives (notRobust u)) m = rw (m .1) (conflict-holds (m .0) (length (listedFor t before)) (m .3))
+      at : (a : Answer (Verdict Failing)) → answer ≡ a → Holds a (members t) (after .plans) (after .ends) (after .picks)
+      at (refused k) e = tt
+      at (gives (unsolvable i)) e = tt
+      at (gives (robust c)) e = tt
+      at (gives (notRobust told)) e =
+          let (c, v, carries, replays) = demand3-answer t before after answer means .notRobust told e in
+          conflict-holds told (length (listedFor t before)) c carries replays
 
-  -- the bytes that are laid are the file of the answer
+  -- the bytes that are laid are the file of the verdict
   pub reports : before ≡ lentFor t → VerdictMeans t before after answer → (n : ℕ) → n ≡ members t
       → (out out′ : List ℕ) (r : ℕ)
-      → Laid (file answer n (after .plans) (after .ends) (after .picks)) out 0 out′ r → AtFront (Reports t) out out′ r
+      → Laid (file answer n (after .plans) (after .ends) (after .picks)) out 0 out′ r → AtFront (reported t) out out′ r
+  unfolding reported
   reports lent means n e out out′ r l =
-      at-front {P = Reports t}
-      (record {
-        answer = answer;
-        after = after;
-        means = subst (λ (l : Slices). VerdictMeans t l after answer) lent means;
-        lines = ap (λ (k : ℕ). file answer k (after .plans) (after .ends) (after .picks)) e;
-      }) l
+      let fileOf : Judged → List ℕ =
+      λ j. file (j .answer) (members t) (j .lent .plans) (j .lent .ends) (j .lent .picks) in
+      let is : file answer n (after .plans) (after .ends) (after .picks) ≡ fileOf (verdictOn t (lentFor t) []) =
+      ap (λ (k : ℕ). file answer k (after .plans) (after .ends) (after .picks)) e
+      ∙ ap fileOf (means .same)
+      ∙ any-trail (verdict t (room before)) (after .trail)
+      ∙ ap (λ (x : Slices). fileOf (verdictOn t x [])) lent in
+      at-front (subst (λ (bytes : List ℕ). Laid bytes out 0 out′ r) is l)
+    where
+      -- no slice but the trail depends on the trail
+      any-trail : (x : Answer (Verdict Conflict)) (trail : List ℕ)
+          → file (judgedBy t before trail x .answer) (members t) (judgedBy t before trail x .lent .plans)
+          (judgedBy t before trail x .lent .ends) (judgedBy t before trail x .lent .picks)
+          ≡ file (judgedBy t before [] x .answer) (members t) (judgedBy t before [] x .lent .plans)
+          (judgedBy t before [] x .lent .ends) (judgedBy t before [] x .lent .picks)
+      any-trail (refused k) trail = refl
+      any-trail (gives v) trail = refl
 
   -- the file fits
   pub file-fits : check t ≡ 0 → before ≡ lentFor t → length (after .plans) ≡ length (before .plans)
@@ -318,24 +333,16 @@ module _ (text words out : List ℕ) (zeros : words ≡ replicate mostWords 0) (
   answered = ap (λ (w : List ℕ). readText text w .answer) zeros
 
   pub prints-task : (n : ℕ) → Words text words out n → {before after : List ℕ} {c : ℕ}
-      → AtFront (Reports (take (rowWidth * n) out)) before after c → AtFront (Prints text) before after c
-  unfolding Prints
-  prints-task n w f =
-      record {
-        bytes = f .bytes;
-        means =
-            subst (λ (a : Answer ℕ). PrintsFor a text (f .bytes)) (sym (w .answer) ∙ answered)
-            (subst (λ (t : List ℕ). Reports t (f .bytes)) (w .words-read) (f .means));
-        count = f .count;
-        inside = f .inside;
-        held = f .held;
-      }
+      → AtFront (reported (take (rowWidth * n) out)) before after c → AtFront (printed text) before after c
+  unfolding printed
+  prints-task n w {before} {after} {c} f =
+      subst (λ (a : Answer ℕ). AtFront (printedFor a text) before after c) (sym (w .answer) ∙ answered)
+      (subst (λ (t : List ℕ). AtFront (reported t) before after c) (w .words-read) f)
 
   pub prints-refusal : (k : ℕ) → r ≡ Refused k → {before after : List ℕ} {c : ℕ}
-      → Laid (header ++ line (word "refused") k) before 0 after c → AtFront (Prints text) before after c
-  unfolding Prints
-  prints-refusal k f l =
-      let bytes = header ++ line (word "refused") k in
+      → Laid (header ++ line (word "refused") k) before 0 after c → AtFront (printed text) before after c
+  unfolding printed
+  prints-refusal k f {before} {after} {c} l =
       let a : refused k ≡ readText text words .answer =
       ap (λ (q : TextRead). reading q out .answer) (sym f) ∙ ap (λ (q : Reading). q .answer) e in
-      at-front {P = Prints text} (subst (λ (a : Answer ℕ). PrintsFor a text bytes) (a ∙ answered) refl) l
+      subst (λ (a : Answer ℕ). AtFront (printedFor a text) before after c) (a ∙ answered) (at-front l)

@@ -1,12 +1,12 @@
 -- Document 01, "Text and verdict program": what the program lends the verdict, and the file that it makes of a text.
 use mathlib.Core.Path.{_≡_}
-use mathlib.Core.List.{List, _++_}
+use mathlib.Core.List.{List, [], _++_}
 use Prim.Native.Nat.{ℕ, _+_, _*_, _≤_}
 use lib.ListN.{length, replicate}
 use Rattle.semantics.specs.Base.{Answer, refused, gives, front}
 use Rattle.semantics.specs.Task.{members}
 use Rattle.semantics.specs.Text.{textWords, readText}
-use Rattle.semantics.specs.Verdict.{Verdict, Failing, Slices, localRows, configurationRows, VerdictMeans}
+use Rattle.semantics.specs.Verdict.{Slices, localRows, configurationRows, verdictOn}
 use Rattle.text.specs.Post.{mostWords}
 use Rattle.report.specs.File.{word, header, line, file}
 
@@ -38,26 +38,23 @@ lentFor t =
       picks = replicate (C t) 0;
     }
 
--- the bytes are the file of the verdict's answer on the task
-pub record Reports (t bytes : List ℕ) : Type 0 where
-  pub answer : Answer (Verdict Failing)
-  pub after : Slices
-  pub means : VerdictMeans t (lentFor t) after answer
-  pub lines : bytes ≡ file answer (members t) (after .plans) (after .ends) (after .picks)
+-- the file of the verdict on the task; no byte of it depends on the trail, which is free
+unfoldable pub reported : List ℕ → List ℕ
+reported t =
+    let j = verdictOn t (lentFor t) [] in
+    file (j .answer) (members t) (j .lent .plans) (j .lent .ends) (j .lent .picks)
 
 -- the reader's refusal, or the verdict on the task that the text writes
-abbrev pub PrintsFor : Answer ℕ → List ℕ → List ℕ → Type 0
-PrintsFor (refused k) text bytes = bytes ≡ header ++ line (word "refused") k
-PrintsFor (gives r) text bytes = Reports (textWords text) bytes
+abbrev pub printedFor : Answer ℕ → List ℕ → List ℕ
+printedFor (refused k) text = header ++ line (word "refused") k
+printedFor (gives r) text = reported (textWords text)
 
 -- the program: a text in, the bytes of its verdict file out
-unfoldable pub Prints : List ℕ → List ℕ → Type 0
-Prints text bytes = PrintsFor (readText text (replicate mostWords 0) .answer) text bytes
+unfoldable pub printed : List ℕ → List ℕ
+printed text = printedFor (readText text (replicate mostWords 0) .answer) text
 
--- r bytes, of which P holds, stand at the front of the slice; the rest is as it was
-pub record AtFront (P : List ℕ → Type 0) (before after : List ℕ) (r : ℕ) : Type 0 where
-  pub bytes : List ℕ
-  pub means : P bytes
+-- these bytes, r of them, stand at the front of the slice; the rest is as it was
+pub record AtFront (bytes before after : List ℕ) (r : ℕ) : Type 0 where
   pub count : r ≡ length bytes
   pub inside : r ≤ length before
   pub held : after ≡ front bytes before

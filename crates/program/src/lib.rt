@@ -5,7 +5,7 @@ ghost use lib.ListN.{length, replicate};
 ghost use Rattle.semantics.specs.Verdict.{lentOf};
 ghost use Rattle.semantics.specs.Task.{check};
 ghost use Rattle.text.specs.Post.{mostWords};
-ghost use Rattle.program.specs.Program.{lentFor, Reports, Prints, AtFront};
+ghost use Rattle.program.specs.Program.{lentFor, reported, printed, AtFront};
 ghost use Rattle.program.specs.Inner.Most.{mostBytes};
 use text::TextRead;
 
@@ -39,7 +39,7 @@ fn judge(
     requires { ⌜ lentOf (now local) (now marks) (now confs) (now trail) (now plans) (now ends)
         (now picks) ≡ lentFor (now t) ⌝ }
     requires { ⌜ mostBytes ≤ length (now out) ⌝ }
-    ensures { λ r. ⌜ AtFront (Reports (now (t .entry))) (now (out .entry)) (now (out .exit)) r ⌝ }
+    ensures { λ r. ⌜ AtFront (reported (now (t .entry))) (now (out .entry)) (now (out .exit)) r ⌝ }
 {
     let n = task::members(t);
     let answer = verdict::verdict(t, local, marks, confs, trail, plans, ends, picks);
@@ -50,7 +50,7 @@ fn judge(
 fn of_task(t: &[u64], out: &mut [u8]) -> usize
     requires { ⌜ check (now t) ≡ 0 ⌝ }
     requires { ⌜ mostBytes ≤ length (now out) ⌝ }
-    ensures { λ r. ⌜ AtFront (Reports (now (t .entry))) (now (out .entry)) (now (out .exit)) r ⌝ }
+    ensures { λ r. ⌜ AtFront (reported (now (t .entry))) (now (out .entry)) (now (out .exit)) r ⌝ }
 {
     let n = task::members(t);
     let rows = n * (LOCAL_WORDS / n);
@@ -79,7 +79,8 @@ fn of_task(t: &[u64], out: &mut [u8]) -> usize
 fn of_text(text: &[u8], words: &mut [u64], out: &mut [u8]) -> usize
     requires { ⌜ now words ≡ replicate mostWords 0 ⌝ }
     requires { ⌜ mostBytes ≤ length (now out) ⌝ }
-    ensures { λ r. ⌜ AtFront (Prints (now (text .entry))) (now (out .entry)) (now (out .exit)) r ⌝ }
+    ensures { λ r. ⌜ AtFront (printed (now (text .entry))) (now (out .entry))
+        (now (out .exit)) r ⌝ }
 {
     match text::read(text, words) {
         TextRead::Gives(n) => of_task(&words[..5 * n], out),
@@ -90,7 +91,8 @@ fn of_text(text: &[u8], words: &mut [u64], out: &mut [u8]) -> usize
 // The program, for every text: the file stands in the first bytes, the answer is their number, and
 // the bytes after them are as they were.
 pub fn verdict_file(text: &[u8], out: &mut [u8; MOST_BYTES]) -> usize
-    ensures { λ r. ⌜ AtFront (Prints (now (text .entry))) (now (out .entry)) (now (out .exit)) r ⌝ }
+    ensures { λ r. ⌜ AtFront (printed (now (text .entry))) (now (out .entry))
+        (now (out .exit)) r ⌝ }
 {
     let mut words = [0u64; WORDS];
     of_text(text, &mut words, out)

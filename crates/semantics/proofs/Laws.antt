@@ -1,43 +1,40 @@
 -- L1 to L12, and further rows: each computes as the paper says.
 use mathlib.Core.Path.{refl}
-use mathlib.Core.List.{List, [], _∷_, flatten}
-use Prim.Native.Nat.{ℕ, zero, suc}
-use lib.ListN.{getD, drop}
-use Rattle.semantics.specs.Base.{anyOf, allOf, collect, keep, numbersFrom, firstRefusal}
+use mathlib.Core.List.{flatten}
+use lib.ListN.{drop}
+use Rattle.semantics.specs.Base.{anyOf, allOf, collect, keep, firstOf, numbersFrom, firstRefusal}
 use Rattle.semantics.specs.Mask.{within, after, below}
 use Rattle.semantics.specs.Task.{headFits, goalRow, actionRow, check}
 use Rattle.semantics.specs.Step.{routine, step}
 use Rattle.semantics.specs.Listing.{addNew, addAll, grow}
 use Rattle.semantics.specs.Solo.{soloFrom, soloNext, copies, leadingTo, liveOf}
+use Rattle.semantics.specs.Completion.{near, nearing, stepsIn, distance, completion}
 use Rattle.semantics.specs.Run.{start, rest, missedIn, pickStep, pick, pickable, stepsLeft, outcome, replayOn}
 use Rattle.semantics.specs.Run.{replay, endsFit, plansRefusal, jointReplay}
 use Rattle.semantics.specs.Verdict.{sameRow, moved, ready, moves, configurations, collides, stuck, blocked}
-use Rattle.semantics.specs.Verdict.{deadlocked, faults, solvableElse, verdictIn, verdict}
-use Rattle.semantics.proofs.Table.{Claim, checkOf, Holds, table, further, AllHold}
+use Rattle.semantics.specs.Verdict.{deadlocked, faults, leadsBy, actionTo, sourceOf, walkIn, colliding, waiting}
+use Rattle.semantics.specs.Verdict.{goesOn, lastPick, restAt, conflictBy, firstConflict, solvableElse, verdictIn}
+use Rattle.semantics.specs.Verdict.{verdict}
+use Rattle.semantics.proofs.Table.{table, further, AllHold}
 
 pub laws-hold : AllHold table
 unfolding anyOf allOf collect flatten keep numbersFrom firstRefusal within after below headFits goalRow actionRow check
     routine step addNew addAll grow soloFrom soloNext copies leadingTo liveOf start rest missedIn pickStep pick pickable
     stepsLeft outcome replayOn replay endsFit plansRefusal jointReplay sameRow moved ready moves configurations collides
-    stuck blocked deadlocked faults solvableElse verdictIn verdict
+    stuck blocked deadlocked faults firstOf near nearing stepsIn distance completion leadsBy actionTo sourceOf walkIn
+    colliding waiting goesOn lastPick restAt conflictBy firstConflict solvableElse verdictIn verdict
 laws-hold =
-    let later : AllHold (drop 12 table) =
-    (refl, (refl, (refl, (refl, (refl, (refl, (refl, (refl, (refl, (refl, (refl, tt))))))))))) in
+    let later : AllHold (drop 12 table) = (refl, (refl, (refl, (refl, (refl, (refl, (refl, tt))))))) in
     (refl, (refl, (refl, (refl, (refl, (refl, (refl, (refl, (refl, (refl, (refl, (refl, later))))))))))))
 
 pub further-hold : AllHold further
 unfolding anyOf allOf collect keep numbersFrom firstRefusal within after below headFits goalRow actionRow check routine
     step addNew addAll grow soloFrom soloNext copies leadingTo liveOf start rest missedIn pickStep pick pickable
     stepsLeft outcome replayOn replay endsFit plansRefusal jointReplay sameRow moved ready moves configurations collides
-    stuck blocked deadlocked faults solvableElse verdictIn verdict
+    stuck blocked deadlocked faults firstOf near nearing stepsIn distance completion leadsBy actionTo sourceOf walkIn
+    colliding waiting goesOn lastPick restAt conflictBy firstConflict solvableElse verdictIn verdict
 further-hold =
+    let last : AllHold (drop 24 further) = (refl, (refl, tt)) in
     let later : AllHold (drop 12 further) =
-    (refl, (refl, (refl, (refl, (refl, (refl, (refl, (refl, (refl, (refl, (refl, tt))))))))))) in
+    (refl, (refl, (refl, (refl, (refl, (refl, (refl, (refl, (refl, (refl, (refl, (refl, last)))))))))))) in
     (refl, (refl, (refl, (refl, (refl, (refl, (refl, (refl, (refl, (refl, (refl, (refl, later))))))))))))
-
--- one row of a table
-pub row-holds : (cs : List Claim) → AllHold cs → (k : ℕ) → Holds (getD cs k (checkOf [] 1))
-unfolding check
-row-holds [] h k = refl
-row-holds (c ∷ cs) h zero = h .0
-row-holds (c ∷ cs) h (suc k) = row-holds cs (h .1) k

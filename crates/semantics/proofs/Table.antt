@@ -1,19 +1,15 @@
 -- Document 01, "Laws to try": L1 to L12 and what it says of them, as rows of one table.
 use mathlib.Core.Path.{_≡_}
-use mathlib.Core.Bool.{Bool, true, false}
-use mathlib.Core.List.{List, [], _∷_, _++_, map, flatten}
+use mathlib.Core.List.{List, [], _∷_, _++_}
 use Prim.Native.Nat.{ℕ, _+_, _*_}
 use lib.ListN.{set}
-use lib.Dec.{eqb}
 use Rattle.semantics.specs.Base.{Answer, refused, gives}
 use Rattle.semantics.specs.Task.{rowWidth, members, check}
-use Rattle.semantics.specs.System.{system, waits}
-use Rattle.semantics.specs.Listing.{addAll}
 use Rattle.semantics.specs.Step.{Decision, go, wait, step}
 use Rattle.semantics.specs.Run.{Fault, collision, deadlock, missed, Outcome, success, failure, still-open, Replay}
 use Rattle.semantics.specs.Run.{jointReplay}
-use Rattle.semantics.specs.Verdict.{Finding, unsolvable, notRobust, robust, Room, lentOf, localRows}
-use Rattle.semantics.specs.Verdict.{configurationRows, verdict, faults, liveFor, listedIn}
+use Rattle.semantics.specs.Verdict.{Verdict, unsolvable, notRobust, robust, Conflict, Room, lentOf, localRows}
+use Rattle.semantics.specs.Verdict.{configurationRows, verdict, listedIn}
 
 -- a law with word k of row r changed
 abbrev pub with : ℕ → ℕ → ℕ → List ℕ → List ℕ
@@ -72,16 +68,49 @@ l11 = with 1 1 32 l1
 abbrev pub l12 : List ℕ
 l12 = with 6 0 0 (with 6 1 1 (with 6 2 2 (with 6 3 0 (with 6 4 0 l1))))
 
+-- ---- laws for the first conflict (document 02, F-2)
+
+-- After action 2 actions 1 and 3 of member 0 collide, and action 0 waits, so that there is a deadlock too. Member 0 has
+-- three ways on from action 1 to its goal: 4 and 5, 6, or 7.
+abbrev pub collisionFirst : List ℕ
+collisionFirst =
+    (6 ∷ 2 ∷ 8 ∷ 3 ∷ 0 ∷ [])
+    ++ (0 ∷ 20 ∷ 0 ∷ 0 ∷ 0 ∷ [])
+    ++ (1 ∷ 8 ∷ 0 ∷ 0 ∷ 0 ∷ [])
+    ++ (0 ∷ 1 ∷ 1 ∷ 4 ∷ 0 ∷ [])
+    ++ (0 ∷ 2 ∷ 0 ∷ 4 ∷ 0 ∷ [])
+    ++ (1 ∷ 0 ∷ 0 ∷ 8 ∷ 3 ∷ [])
+    ++ (0 ∷ 2 ∷ 0 ∷ 4 ∷ 0 ∷ [])
+    ++ (0 ∷ 4 ∷ 0 ∷ 32 ∷ 0 ∷ [])
+    ++ (0 ∷ 32 ∷ 0 ∷ 16 ∷ 0 ∷ [])
+    ++ (0 ∷ 4 ∷ 0 ∷ 16 ∷ 0 ∷ [])
+    ++ (0 ∷ 4 ∷ 0 ∷ 16 ∷ 0 ∷ [])
+
+-- After actions 0 and 2, in either order, member 0 has its goal and can wait in action 1, and member 1 lacks its goal
+-- and can wait in actions 3 and 4.
+abbrev pub endedWaits : List ℕ
+endedWaits =
+    (6 ∷ 2 ∷ 5 ∷ 3 ∷ 0 ∷ [])
+    ++ (0 ∷ 4 ∷ 0 ∷ 0 ∷ 0 ∷ [])
+    ++ (1 ∷ 8 ∷ 0 ∷ 0 ∷ 0 ∷ [])
+    ++ (0 ∷ 0 ∷ 0 ∷ 4 ∷ 2 ∷ [])
+    ++ (0 ∷ 5 ∷ 1 ∷ 16 ∷ 0 ∷ [])
+    ++ (1 ∷ 1 ∷ 0 ∷ 32 ∷ 1 ∷ [])
+    ++ (1 ∷ 34 ∷ 2 ∷ 8 ∷ 0 ∷ [])
+    ++ (1 ∷ 34 ∷ 2 ∷ 8 ∷ 0 ∷ [])
+
+-- the same with goals that both members have there
+abbrev pub allEnded : List ℕ
+allEnded = with 2 1 32 endedWaits
+
 -- ---- what the paper says of them
 
 -- a row of the table: a law's verdict with so many local and configuration words, the other slices as long as asked; a
--- replay's answer; the configurations that are listed; the faults that they show; the task check's refusal; a step's
--- answer
+-- replay's answer; the configurations that are listed; the task check's refusal; a step's answer
 pub data Claim : Type 0 where
-  verdictOf : List ℕ → ℕ → ℕ → Answer Finding → Claim
+  verdictOf : List ℕ → ℕ → ℕ → Answer (Verdict Conflict) → Claim
   replayOf : List ℕ → List ℕ → List ℕ → List ℕ → Answer (Replay ℕ) → Claim
   listedOf : List ℕ → List (List ℕ) → Claim
-  shownOf : List ℕ → List Fault → Claim
   checkOf : List ℕ → ℕ → Claim
   stepOf : List ℕ → ℕ → ℕ → Answer (Decision ℕ) → Claim
 
@@ -96,28 +125,10 @@ roomFor t localWords words =
 abbrev pub plenty : ℕ
 plenty = 48
 
-abbrev pub sameFault : Fault → Fault → Bool
-sameFault collision collision = true
-sameFault collision deadlock = false
-sameFault collision (missed j) = false
-sameFault deadlock collision = false
-sameFault deadlock deadlock = true
-sameFault deadlock (missed j) = false
-sameFault (missed i) collision = false
-sameFault (missed i) deadlock = false
-sameFault (missed i) (missed j) = eqb i j
-
--- the faults that the listed configurations show, each once, in the order of the list
-abbrev pub shownIn : List ℕ → Room → List Fault
-shownIn t room =
-    let live = liveFor (system t) (localRows t (room .localTable)) in
-    addAll sameFault [] (flatten (map (faults (system t) (waits t) live) (listedIn t room)))
-
 abbrev pub Holds : Claim → Type 0
 Holds (verdictOf t localWords words v) = verdict t (roomFor t localWords words) ≡ v
 Holds (replayOf t plans ends picks r) = jointReplay t plans ends picks ≡ r
 Holds (listedOf t rows) = listedIn t (roomFor t plenty plenty) ≡ rows
-Holds (shownOf t fs) = shownIn t (roomFor t plenty plenty) ≡ fs
 Holds (checkOf t k) = check t ≡ k
 Holds (stepOf t a g d) = step t a g ≡ d
 
@@ -128,21 +139,22 @@ AllHold (c ∷ cs) = Holds c × AllHold cs
 abbrev pub ends : Outcome → ℕ → ℕ → Answer (Replay ℕ)
 ends o g k = gives (record { outcome = o; shared = g; picked = k })
 
+-- not robust, with this conflict
+abbrev pub conflict : Fault → ℕ → List (List ℕ) → List ℕ → Answer (Verdict Conflict)
+conflict f k plans picks =
+    gives (notRobust (record { told = record { fault = f; picked = k }; plans = plans; picks = picks }))
+
 abbrev pub table : List Claim
 table =
     verdictOf l1 plenty plenty (gives (robust 12))
-    ∷ shownOf l1 []
-    ∷ verdictOf l2 plenty plenty (gives (notRobust tt))
-    ∷ shownOf l2 (collision ∷ [])
+    ∷ verdictOf l2 plenty plenty (conflict collision 1 ((0 ∷ 1 ∷ []) ∷ (2 ∷ 3 ∷ []) ∷ []) (0 ∷ 1 ∷ []))
     ∷ replayOf l2 (0 ∷ 1 ∷ 2 ∷ 3 ∷ []) (2 ∷ 4 ∷ []) (0 ∷ 1 ∷ []) (ends (failure collision) 2 1)
-    ∷ verdictOf l3 plenty plenty (gives (notRobust tt))
-    ∷ shownOf l3 (deadlock ∷ [])
+    ∷ verdictOf l3 plenty plenty (conflict deadlock 3 ((0 ∷ 1 ∷ 0 ∷ []) ∷ (2 ∷ 3 ∷ []) ∷ []) (0 ∷ 0 ∷ 0 ∷ []))
     ∷ replayOf l3 (0 ∷ 1 ∷ 0 ∷ 2 ∷ 3 ∷ []) (3 ∷ 5 ∷ []) (0 ∷ 0 ∷ 0 ∷ []) (ends (failure deadlock) 6 3)
     ∷ verdictOf l4 plenty plenty (gives (unsolvable 1))
     ∷ verdictOf l5 plenty plenty (gives (robust 1))
     ∷ verdictOf l6 plenty plenty (gives (unsolvable 0))
-    ∷ verdictOf l7 plenty plenty (gives (notRobust tt))
-    ∷ shownOf l7 (missed 0 ∷ [])
+    ∷ verdictOf l7 plenty plenty (conflict (missed 0) 2 ((0 ∷ []) ∷ (1 ∷ []) ∷ []) (0 ∷ 1 ∷ []))
     ∷ replayOf l7 (0 ∷ 1 ∷ []) (1 ∷ 2 ∷ []) (0 ∷ 1 ∷ []) (ends (failure (missed 0)) 2 2)
     ∷ replayOf l7 (0 ∷ 1 ∷ []) (1 ∷ 2 ∷ []) (1 ∷ 0 ∷ []) (ends success 3 2)
     ∷ listedOf l7 ((0 ∷ 0 ∷ 0 ∷ []) ∷ (1 ∷ 0 ∷ 1 ∷ []) ∷ (0 ∷ 2 ∷ 2 ∷ []) ∷ (1 ∷ 2 ∷ 2 ∷ []) ∷ (1 ∷ 2 ∷ 3 ∷ []) ∷ [])
@@ -155,7 +167,7 @@ table =
     ∷ verdictOf l12 plenty plenty (refused 6)
     ∷ []
 
--- further rows: steps, and which of two refusals stands first
+-- further rows: steps, which of two refusals stands first, and which conflict is the first
 abbrev pub further : List Claim
 further =
     stepOf l1 0 1 (gives (go 2))
@@ -175,6 +187,12 @@ further =
     ∷ checkOf (with 3 0 2 (with 3 1 32 l1)) 5
     ∷ checkOf (with 3 2 32 l1) 4
     ∷ checkOf (with 3 2 2 (with 4 0 2 l1)) 6
+    -- collision, by the lowest action, before deadlock; then the shortest way on, by the lowest action
+    ∷ verdictOf collisionFirst plenty plenty (conflict collision 1 ((1 ∷ 6 ∷ []) ∷ (2 ∷ []) ∷ []) (1 ∷ 0 ∷ []))
+    -- by the moves that first listed the row; who has its goal ends
+    ∷ verdictOf endedWaits plenty plenty (conflict deadlock 2 ((0 ∷ []) ∷ (2 ∷ 3 ∷ []) ∷ []) (0 ∷ 1 ∷ []))
+    -- all have theirs: the lowest member that can wait goes on
+    ∷ verdictOf allEnded plenty plenty (conflict deadlock 2 ((0 ∷ 1 ∷ []) ∷ (2 ∷ []) ∷ []) (0 ∷ 1 ∷ []))
     ∷ replayOf l1 (9 ∷ []) (1 ∷ []) [] (refused 11)
     ∷ replayOf l1 (9 ∷ []) (0 ∷ 1 ∷ []) [] (refused 12)
     ∷ replayOf l1 (0 ∷ 9 ∷ 2 ∷ []) (2 ∷ 3 ∷ []) [] (refused 7)

@@ -30,6 +30,11 @@ module _ {A : Type 0} where
   unfoldable pub keep : (A → Bool) → List A → List A
   keep p xs = collect p (λ x. x) xs
 
+  -- the first of the list that passes the test; d where none does
+  unfoldable pub firstOf : (A → Bool) → A → List A → A
+  firstOf p d [] = d
+  firstOf p d (x ∷ xs) = cond (p x) x (firstOf p d xs)
+
 -- ---- refusals: a number, 0 where there is none
 
 -- the refusal k where the test is true

@@ -16,7 +16,7 @@
 --   the dispatcher's start  `startOf`            run_dispatch::start
 --   verdict                 `VerdictMeans`       verdict::verdict; with `Demand3Answer`
 --   text reader             `readText`           text::read
---   verdict program         `Prints` of program  program::verdict_file
+--   verdict program         `printed` of program program::verdict_file
 --
 -- The C interface (capi) gives these meanings as numbers.
 --
@@ -26,8 +26,9 @@
 -- Demand 3, robustness. For an accepted task that fits the slices and in which each member has a solving plan: over all
 -- choices of solving plans and all lists of picks, the finished runs are just the successes exactly when the verdict is
 -- robust; and the verdict is robust exactly when the task's setting is robust in the model. A verdict of not robust
--- carries plans and picks whose joint replay ends as the verdict says: `Demand3`, and of the verdict's own answer
--- `Demand3Answer`. What the verdict's search lists, and when it refuses: `VerdictSearch`.
+-- carries plans and picks whose joint replay ends as the verdict says, and no run that fails has fewer picks that go:
+-- `Demand3`, and of the verdict's own answer `Demand3Answer`. That it is the same with whatever room: `OneVerdict`. What
+-- the verdict's search lists, and when it refuses: `VerdictSearch`.
 use mathlib.Core.Path.{_≡_}
 use mathlib.Core.Bool.{Bool, true, false, not}
 use mathlib.Core.Logic.{_↔_, _⊎_}
@@ -35,7 +36,7 @@ use mathlib.Core.List.{List, [], _∷_, _++_, map, flatten, List·Memᴰ}
 use Prim.Native.Nat.{ℕ, _≤_, _<_}
 use lib.ListN.{length, getD, take, drop}
 use lib.Dec.{eqb}
-use Rattle.semantics.specs.Base.{Answer, refused, gives}
+use Rattle.semantics.specs.Base.{Answer, refused, gives, padded}
 use Rattle.semantics.specs.Mask.{has, below}
 use Rattle.semantics.specs.Task as Task
 use Rattle.semantics.specs.Task.{check, facts, members, actions, owner}
@@ -46,10 +47,10 @@ use Rattle.semantics.specs.Solo.{Solo, soloRefusal, soloReplay, soloNext
 use Rattle.semantics.specs.Run.{Run, Fault, not-yet, isClosed, Reply, Replied, Outcome, success, failure}
 use Rattle.semantics.specs.Run.{still-open, isSuccess, isOpen, Replay, rest, stepped, closedBy, passOver, start}
 use Rattle.semantics.specs.Run.{outcome, play, beginning, planOf, plansOf, plansRefusal, jointReplay, startOf}
-use Rattle.semantics.specs.Run.{pickOn, playOn}
+use Rattle.semantics.specs.Run.{tally, pick, endsFrom, pickOn, playOn}
 use Rattle.semantics.specs.Verdict.{Room, localRows, configurationRows, tooShort, Verdict, unsolvable, notRobust}
-use Rattle.semantics.specs.Verdict.{robust, Finding, Failing, sameRow, localCopy, sharedCopy, startRow, moved}
-use Rattle.semantics.specs.Verdict.{moves, faults, verdict, Slices, room, Conflict, liveFor, listedIn, listedFor}
+use Rattle.semantics.specs.Verdict.{robust, Failing, Conflict, sameRow, localCopy, sharedCopy, startRow, moved}
+use Rattle.semantics.specs.Verdict.{moves, conflictPicks, verdict, Slices, room, liveFor, listedIn, listedFor}
 use Rattle.semantics.specs.Model.{FactSet, _⊆_, Setting, apply, Executes, Solution, World, Acts, Collides}
 use Rattle.semantics.specs.Model.{Waiting, Execution, Deadlock, Success, Missed, GoesOn, begin, Robust}
 
@@ -244,34 +245,46 @@ module _ (S : System) (waits : Waits S) where
   abbrev pub successes : Choice S → List ℕ → Bool
   successes c picks = isSuccess (runOutcome c picks)
 
--- plans and picks whose joint replay ends as told
-pub record Replays (t : List ℕ) (told : Failing) : Type 0 where
-  pub plans : List ℕ
-  pub ends : List ℕ
-  pub picks : List ℕ
+  -- the picks that go, k before these being done: a run of these plans goes on from r with these picks
+  unfoldable pub goPicks : List (List ℕ) → Run (S .State) → ℕ → List ℕ → ℕ
+  goPicks plans r k [] = k
+  goPicks plans r k (j ∷ js) =
+      let x = pick S waits plans r j in goPicks plans (passOver r x) (tally k x) js
+
+-- joint replay of a conflict's plans and picks, no more than the listed configurations, ends as is told
+pub record Replays (t : List ℕ) (listed : ℕ) (c : Conflict) : Type 0 where
+  pub pickCount : length (c .picks) ≡ conflictPicks (c .told .fault) (c .told .picked)
+  pub few : length (c .picks) ≤ listed
   pub shared : ℕ
-  pub replays : jointReplay t plans ends picks
-      ≡ gives (record { outcome = failure (told .fault); shared = shared; picked = told .picked })
+  pub replays : jointReplay t (flatten (c .plans)) (endsFrom 0 (c .plans)) (c .picks)
+      ≡ gives (record { outcome = failure (c .told .fault); shared = shared; picked = c .told .picked })
+
+-- no run that fails, over all choices of solving plans and all lists of picks, has fewer than k picks that go
+abbrev pub Fewest : List ℕ → ℕ → Type 0
+Fewest t k =
+    (c : Choice (system t)) (picks : List ℕ) (f : Fault) → runOutcome (system t) (waits t) c picks ≡ failure f
+    → k ≤ goPicks (system t) (waits t) (c .plans) (start (system t)) 0 picks
 
 -- For a task that is not refused, in which each member has a solving plan: the verdict is robust exactly when the
--- finished runs are just the successes, and exactly when the task's setting is robust. A verdict of not robust has a
--- conflict that replays.
+-- finished runs are just the successes, and exactly when the task's setting is robust. The conflict of a verdict of not
+-- robust replays, and no run that fails has fewer picks that go.
 pub record Demand3 (t : List ℕ) (room : Room) : Type 0 where
-  pub robust : Choice (system t) → (v : Finding) → verdict t room ≡ gives v
+  pub robust : Choice (system t) → (v : Verdict Conflict) → verdict t room ≡ gives v
       → ((count : ℕ) × (v ≡ robust count)) ↔ (finishedRuns (system t) (waits t) ≡ successes (system t) (waits t))
-  pub robustSetting : ((j : ℕ) → j < members t → Solvable t j) → (v : Finding) → verdict t room ≡ gives v
+  pub robustSetting : ((j : ℕ) → j < members t → Solvable t j) → (v : Verdict Conflict) → verdict t room ≡ gives v
       → ((count : ℕ) × (v ≡ Verdict.robust count)) ↔ Robust (setting t)
-  pub notRobust : verdict t room ≡ gives (notRobust tt) → (told : Failing) × Replays t told
+  pub notRobust : (c : Conflict) → verdict t room ≡ gives (notRobust c)
+      → Replays t (length (listedIn t room)) c
+  pub fewest : (c : Conflict) → verdict t room ≡ gives (Verdict.notRobust c) → Fewest t (c .told .picked)
 
--- the fault is one that a listed configuration shows
-abbrev pub ShownIn : List ℕ → Room → Fault → Type 0
-ShownIn t room f =
-    (c : List ℕ)
-    × List·Memᴰ c (listedIn t room)
-    × List·Memᴰ f (faults (system t) (waits t) (liveFor (system t) (localRows t (room .localTable))) c)
+-- the slices hold the conflict c, zeros after it, of which so much is told
+pub record Carries (told : Failing) (c : Conflict) (before after : Slices) : Type 0 where
+  pub isTold : told ≡ c .told
+  pub plans : after .plans ≡ padded (length (before .plans)) (flatten (c .plans))
+  pub ends : after .ends ≡ padded (length (before .ends)) (endsFrom 0 (c .plans))
+  pub picks : after .picks ≡ padded (length (before .picks)) (c .picks)
 
--- The same of a verdict's own answer; and what is told of a conflict is what joint replay of the conflict's slices
--- answers, and a fault that a listed configuration shows.
+-- The same of a verdict's own answer, and of the slices that hold its conflict.
 pub record Demand3Answer (t : List ℕ) (before after : Slices) (answer : Answer (Verdict Failing)) : Type 0 where
   pub robust : Choice (system t) → (v : Verdict Failing) → answer ≡ gives v
       → ((count : ℕ) × (v ≡ Verdict.robust count))
@@ -279,8 +292,16 @@ pub record Demand3Answer (t : List ℕ) (before after : Slices) (answer : Answer
   pub robustSetting : ((j : ℕ) → j < members t → Solvable t j) → (v : Verdict Failing) → answer ≡ gives v
       → ((count : ℕ) × (v ≡ Verdict.robust count)) ↔ Robust (setting t)
   pub notRobust : (told : Failing) → answer ≡ gives (notRobust told)
-      → Conflict t told (length (listedFor t before)) before after
-  pub shown : (told : Failing) → answer ≡ gives (Verdict.notRobust told) → ShownIn t (room before) (told .fault)
+      → (c : Conflict)
+      × (verdict t (room before) ≡ gives (Verdict.notRobust c))
+      × Carries told c before after
+      × Replays t (length (listedFor t before)) c
+  pub fewest : (told : Failing) → answer ≡ gives (Verdict.notRobust told) → Fewest t (told .picked)
+
+-- A task has one verdict, its conflict too: where two are given, by slices of whatever lengths, they are equal.
+abbrev pub OneVerdict : List ℕ → Type 0
+OneVerdict t =
+    (room room′ : Room) (v v′ : Verdict Conflict) → verdict t room ≡ gives v → verdict t room′ ≡ gives v′ → v ≡ v′
 
 -- ---- what the verdict's search lists, and when it refuses
 
@@ -322,7 +343,7 @@ pub record VerdictSearch (t : List ℕ) (room : Room) : Type 0 where
       × (¬ Solvable t i)
       × ((j : ℕ) → j < i → Solvable t j))
   -- else the configurations are listed, and robust has their number
-  pub listed : (v : Finding) → verdict t room ≡ gives v → ((j : ℕ) → j < members t → Solvable t j)
+  pub listed : (v : Verdict Conflict) → verdict t room ≡ gives v → ((j : ℕ) → j < members t → Solvable t j)
       → ListedRows t (liveFor (system t) (localRows t (room .localTable))) (listedIn t room)
   pub counted : (n : ℕ) → verdict t room ≡ gives (robust n) → n ≡ length (listedIn t room)
 

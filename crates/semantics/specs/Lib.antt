@@ -1,4 +1,5 @@
 pub mod Base
+pub mod Completion
 pub mod Demands
 pub mod Listing
 pub mod Mask

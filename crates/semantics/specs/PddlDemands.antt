@@ -6,13 +6,23 @@ use mathlib.Core.Logic.{_↔_}
 use mathlib.Core.List.{List}
 use Prim.Native.Nat.{ℕ, _+_, _*_, _≤_}
 use lib.ListN.{length}
-use Rattle.semantics.specs.Base.{gives, padded}
+use Rattle.semantics.specs.Base.{Answer, refused, gives, padded}
 use Rattle.semantics.specs.Task.{rowWidth, members, actions, check}
 use Rattle.semantics.specs.Model.{Robust}
-use Rattle.semantics.specs.Verdict.{Room, Finding, verdict}
+use Rattle.semantics.specs.Verdict.{Verdict, unsolvable, notRobust, robust, Conflict, Room, verdict}
 use Rattle.semantics.specs.Demands.{setting}
 use Rattle.semantics.specs.Pddl.{readPddl}
 use Rattle.semantics.specs.PddlWrite.{grouped, lawText, waitsText, writePddl}
+
+-- a verdict without its conflict, whose actions have other numbers in the grouped task
+abbrev pub classOf : Verdict Conflict → Verdict (Unit {0})
+classOf (unsolvable i) = unsolvable i
+classOf (notRobust c) = notRobust tt
+classOf (robust n) = robust n
+
+abbrev pub answerClass : Answer (Verdict Conflict) → Answer (Verdict (Unit {0}))
+answerClass (refused k) = refused k
+answerClass (gives v) = gives (classOf v)
 
 -- for an accepted task
 pub record SameVerdict (t : List ℕ) : Type 0 where
@@ -20,10 +30,10 @@ pub record SameVerdict (t : List ℕ) : Type 0 where
   pub robust : Robust (setting t) ↔ Robust (setting (grouped t))
   -- with any rooms, where neither verdict is refused: both are unsolvable with the same member, both not robust, or
   -- both robust with the same number of configurations
-  pub finding : (room room′ : Room) (v v′ : Finding) → verdict t room ≡ gives v → verdict (grouped t) room′ ≡ gives v′
-      → v ≡ v′
-  -- with the same room the same answer, refusals too
-  pub answer : (room : Room) → verdict t room ≡ verdict (grouped t) room
+  pub finding : (room room′ : Room) (v v′ : Verdict Conflict)
+      → verdict t room ≡ gives v → verdict (grouped t) room′ ≡ gives v′ → classOf v ≡ classOf v′
+  -- with the same room the same answer, refusals too, but for the conflict
+  pub answer : (room : Room) → answerClass (verdict t room) ≡ answerClass (verdict (grouped t) room)
 
 abbrev pub Groups : Type 0
 Groups = (t : List ℕ) → check t ≡ 0 → SameVerdict t

@@ -1,5 +1,5 @@
 -- Document 02, F-1: the writer of laws in PDDL. The grouped task, the two texts, and the operation.
-use mathlib.Core.Bool.{Bool, _||_}
+use mathlib.Core.Bool.{_||_}
 use mathlib.Core.List.{List, [], _∷_, _++_, map, flatten}
 use Prim.Native.Nat.{ℕ, suc, _+_, _*_}
 use Prim.Native.Char.{code}

@@ -173,6 +173,11 @@ planOf plans ends j = slice (beginning ends j) (getD ends j 0) plans
 abbrev pub plansOf : ℕ → List ℕ → List ℕ → List (List ℕ)
 plansOf n plans ends = map (planOf plans ends) (upTo n)
 
+-- the ends of plans laid end to end, the first beginning at k
+unfoldable pub endsFrom : ℕ → List (List ℕ) → List ℕ
+endsFrom k [] = []
+endsFrom k (p ∷ ps) = (k + length p) ∷ endsFrom (k + length p) ps
+
 -- n ends, none before the one before it, the last at the plan slice's end
 unfoldable pub endsFit : ℕ → List ℕ → List ℕ → Bool
 endsFit n plans ends =

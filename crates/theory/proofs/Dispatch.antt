@@ -15,14 +15,14 @@ use Rattle.semantics.specs.Base.{upTo, Answer, refused, gives}
 use Rattle.semantics.specs.Task.{check, members, facts, add, del}
 use Rattle.semantics.specs.System.{system, waits, Solves, Choice}
 use Rattle.semantics.specs.Run.{Run, Replied, rest, passOver, start, pick, play, planOf, plansOf, plansRefusal}
-use Rattle.semantics.specs.Run.{pickOn, playOn}
+use Rattle.semantics.specs.Run.{endsFrom, pickOn, playOn}
 use Rattle.semantics.specs.Demands.{RunFits, pickEach, InSlices, madeRun, PickedRuns, Dispatcher}
 use Rattle.theory.proofs.Lists.{upTo-length, getD-upTo}
 use Rattle.theory.proofs.Refusals.{refused-gives}
 use Rattle.theory.proofs.Attempts.{result-after}
 use Rattle.theory.proofs.Masks.{after-below}
 use Rattle.theory.proofs.Accepted.{accepted}
-use Rattle.theory.proofs.Plans.{endsFrom, laid-plans, laid-accepted, checked-task, rest-length}
+use Rattle.theory.proofs.Plans.{laid-plans, laid-accepted, checked-task, rest-length}
 use Rattle.theory.proofs.Picks.{Picked, nobody, closed, over, goes, collides, picked}
 use Rattle.theory.proofs.Picks as Picks
 use Rattle.theory.proofs.Agrees.Solo.{solution-leads}

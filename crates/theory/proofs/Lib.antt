@@ -1,12 +1,15 @@
 pub mod Accepted
 pub mod Agrees
+pub mod AnyRoom
 pub mod Attempts
 pub mod Complete
+pub mod Completion
 pub mod Demand2
 pub mod Demand3
 pub mod Dispatch
 pub mod Faults
-pub mod Told
+pub mod First
+pub mod FirstListed
 pub mod Laid
 pub mod Listing
 pub mod Lists

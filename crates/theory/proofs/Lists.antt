@@ -79,9 +79,9 @@ module _ {A : Type 0} where
   no-members [] e = refl
   no-members (x ∷ xs) e = absurd (true-not-false (lt-ltb 0 (length (x ∷ xs)) (omega arith)) e)
 
-  pub some-member : (xs : List A) → ltb 0 (length xs) ≡ true → (x : A) × List·Memᴰ x xs
-  some-member [] e = absurd (true-not-false e refl)
-  some-member (x ∷ xs) e = (x, List·Memᴰ·head refl)
+  pub member-some : {x : A} {xs : List A} → List·Memᴰ x xs → ltb 0 (length xs) ≡ true
+  member-some {xs = []} m = absurd (List·Memᴰ·not-nil m)
+  member-some {xs = y ∷ ys} m = lt-ltb 0 (length (y ∷ ys)) (omega arith)
 
   -- where a member stands
   pub mem-index : {x : A} {xs : List A} (d : A) → List·Memᴰ x xs → (k : ℕ) × (k < length xs) × (getD xs k d ≡ x)
@@ -118,6 +118,14 @@ module _ {A : Type 0} where
     unfolding allOf
     true-all [] h = refl
     true-all (x ∷ xs) h = and-intro (h x (List·Memᴰ·head refl)) (true-all xs (λ y m. h y (List·Memᴰ·tail m)))
+
+    pub all-false : (xs : List A) → allOf p xs ≡ false → (x : A) × List·Memᴰ x xs × (p x ≡ false)
+    unfolding allOf
+    all-false [] h = absurd (true≢false h)
+    all-false (x ∷ xs) h =
+        ⊎-elim
+        (λ t. let r = all-false xs (rw t at h) in (r .0, List·Memᴰ·tail (r .1), r .2))
+        (λ f. (x, List·Memᴰ·head refl, f)) (bool-cases (p x))
 
     pub false-all : {x : A} {xs : List A} → List·Memᴰ x xs → p x ≡ false → allOf p xs ≡ false
     false-all {x} {xs} m f = not-true-false (allOf p xs) (λ t. true-not-false (all-true t m) f)
@@ -245,3 +253,14 @@ pub getD-map : {A B : Type 0} (f : A → B) (xs : List A) (k : ℕ) (d : A) (e :
 getD-map f [] k d e l = absurd (not-suc-le-zero l)
 getD-map f (x ∷ xs) zero d e l = refl
 getD-map f (x ∷ xs) (suc k) d e l = getD-map f xs k d e (le-of-suc-le-suc l)
+
+-- number i of those below n
+pub getD-number : (n i : ℕ) → i < n → getD (upTo n) i 0 ≡ i
+getD-number n i h =
+    sym (getD-map (λ (x : ℕ). x) (upTo n) i 0 0 (omega (arith, upTo-length n))) ∙ getD-upTo (λ x. x) n i 0 h
+
+-- lists made alike of the same entries
+pub map-same : {A B : Type 0} (f g : A → B) (xs : List A) → ((x : A) → List·Memᴰ x xs → f x ≡ g x) → map f xs ≡ map g xs
+map-same f g [] h = refl
+map-same f g (x ∷ xs) h =
+    rw (h x (List·Memᴰ·head refl), map-same f g xs (λ y m. h y (List·Memᴰ·tail m)))

@@ -15,14 +15,9 @@ use Rattle.semantics.specs.Task.{check, members, actions, owner}
 use Rattle.semantics.specs.System.{System, system, waits, Leads, done, next, Solves}
 use Rattle.semantics.specs.Solo.{solves, soloFrom, entry}
 use Rattle.semantics.specs.Run.{Run, rest, replay, jointReplay}
-use Rattle.semantics.specs.Run.{beginning, planOf, plansOf, endsFit, planRefusal, plansRefusal}
+use Rattle.semantics.specs.Run.{beginning, planOf, plansOf, endsFrom, endsFit, planRefusal, plansRefusal}
 use Rattle.theory.proofs.Lists.{and-intro, true-all, upTo-mem, getD-upTo, upTo-length}
 use Rattle.theory.proofs.Refusals.{else-both, no-refusal}
-
--- the ends of plans laid end to end, the first beginning at k
-unfoldable pub endsFrom : ℕ → List (List ℕ) → List ℕ
-endsFrom k [] = []
-endsFrom k (p ∷ ps) = (k + length p) ∷ endsFrom (k + length p) ps
 
 unfoldable pub endsFrom-length : (k : ℕ) (ps : List (List ℕ)) → length (endsFrom k ps) ≡ length ps
 unfolding endsFrom

@@ -17,7 +17,8 @@ use Rattle.semantics.specs.Listing.{Reach, here, step}
 use Rattle.semantics.specs.Solo.{copies}
 use Rattle.semantics.specs.Model.{_⊆_}
 use Rattle.semantics.specs.Verdict.{Room, localRows, configurationRows, tooShort, unsolvable, notRobust, robust}
-use Rattle.semantics.specs.Verdict.{Finding, sameRow, localCopy, sharedCopy, startRow, moves, configurations, verdictIn}
+use Rattle.semantics.specs.Verdict.{Verdict, Conflict, firstConflict, sameRow, localCopy, sharedCopy, startRow}
+use Rattle.semantics.specs.Verdict.{moves, configurations, verdictIn}
 use Rattle.semantics.specs.Verdict.{verdict, liveFor, listedIn}
 use Rattle.semantics.specs.Demands.{factsOf, setting, Reachable, Completable, Solvable, Exceed, Configured}
 use Rattle.semantics.specs.Demands.{at-start, by-move, ListedRows, CopiesExceed, VerdictSearch, Searches}
@@ -170,7 +171,7 @@ module _ (t : List ℕ) (room : Room) (ok : check t ≡ 0) (long : tooShort t ro
   AllSolvable = (j : ℕ) → j < members t → Solvable t j
 
   -- a finding on the listed configurations
-  judged : (v : Finding) → verdict t room ≡ gives v → Searched (system t) (waits t) lawful K C
+  judged : (v : Verdict Conflict) → verdict t room ≡ gives v → Searched (system t) (waits t) lawful K C
       → ((i : ℕ) → v ≡ unsolvable i → ⊥) → ((n : ℕ) → v ≡ robust n → n ≡ length rows) → VerdictSearch t room
   judged v e s not-unsolvable count =
       let solvable : AllSolvable = λ j h. live-solvable (s .fits) j h (s .solvable j h) in
@@ -231,7 +232,8 @@ module _ (t : List ℕ) (room : Room) (ok : check t ≡ 0) (long : tooShort t ro
         counted = λ n q. absurd (apart (cc));
       }
 
-  searches : (x : Answer Finding) → verdict t room ≡ x → Found (system t) (waits t) lawful K C x → VerdictSearch t room
+  searches : (x : Answer (Verdict Conflict)) → verdict t room ≡ x → Found (system t) (waits t) lawful K C x
+      → VerdictSearch t room
   searches x e (Found.copies-full {i = i} h l) =
       let exceed = copies-exceed i h l in
       full-search e (inl exceed) (λ j n m. absurd (n exceed))
@@ -239,7 +241,9 @@ module _ (t : List ℕ) (room : Room) (ok : check t ≡ 0) (long : tooShort t ro
   searches x e (Found.configurations-full fits solvable l) =
       let each : AllSolvable = λ j h. live-solvable fits j h (solvable j h) in
       full-search e (inr (each, rows-exceed fits l)) (λ j n m. each j m)
-  searches x e (Found.faulty s m shown) = judged (notRobust tt) e s (λ i q. apart (cc)) (λ n q. absurd (apart (cc)))
+  searches x e (Found.faults-shown s f) =
+      judged (notRobust (firstConflict (system t) (waits t) live K rows)) e s (λ i q. apart (cc))
+      (λ n q. absurd (apart (cc)))
   searches x e (Found.faultless s none) = judged (robust (length rows)) e s (λ i q. apart (cc)) (λ n q. cc)
 
 pub verdict-searches : Searches
