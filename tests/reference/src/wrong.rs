@@ -4,8 +4,7 @@
 use crate::fast::verdict::{
     moved, verdict_by, Configuration, Kind, Lent, Listing, Manner, Next, Right, Shown, SHARED,
 };
-use crate::fast::{joint_replay, Copies, Fast, Task, DEAD};
-use crate::interface::{give, out_length, Interface, TOO_SHORT};
+use crate::fast::{joint_replay, Copies, Task, Twin, DEAD};
 use std::collections::{HashMap, HashSet};
 
 /// The fast twin with another verdict.
@@ -355,92 +354,8 @@ fn picks_exchanged(task: &[u64], lent: &mut Lent) -> Result<[u64; 3], u64> {
     Ok(answer)
 }
 
-impl Interface for Wrong {
-    fn task(&self, task: &[u64]) -> u64 {
-        Fast.task(task)
-    }
-
-    fn step(&self, task: &[u64], action: u16, shared: &[u64], out: &mut [u64]) -> u64 {
-        Fast.step(task, action, shared, out)
-    }
-
-    fn solo_replay(&self, task: &[u64], member: u8, plan: &[u16], out: &mut [u64]) -> u64 {
-        Fast.solo_replay(task, member, plan, out)
-    }
-
-    fn solo_search(
-        &self,
-        task: &[u64],
-        member: u8,
-        table: &mut [u64],
-        marks: &mut [u8],
-        out: &mut [u64],
-    ) -> u64 {
-        Fast.solo_search(task, member, table, marks, out)
-    }
-
-    fn joint_replay(
-        &self,
-        task: &[u64],
-        plans: &[u16],
-        ends: &[u64],
-        picks: &[u8],
-        out: &mut [u64],
-    ) -> u64 {
-        Fast.joint_replay(task, plans, ends, picks, out)
-    }
-
-    fn pick(
-        &self,
-        task: &[u64],
-        plans: &[u16],
-        ends: &[u64],
-        run: &mut [u64],
-        member: u8,
-        out: &mut [u64],
-    ) -> u64 {
-        Fast.pick(task, plans, ends, run, member, out)
-    }
-
-    fn start(&self, task: &[u64], run: &mut [u64]) -> u64 {
-        Fast.start(task, run)
-    }
-
-    fn play(
-        &self,
-        task: &[u64],
-        plans: &[u16],
-        ends: &[u64],
-        run: &mut [u64],
-        picks: &[u8],
-        answers: &mut [u64],
-    ) -> u64 {
-        Fast.play(task, plans, ends, run, picks, answers)
-    }
-
-    fn verdict(
-        &self,
-        task: &[u64],
-        local: &mut [u64],
-        marks: &mut [u8],
-        configurations: &mut [u64],
-        trail: &mut [u64],
-        plans: &mut [u16],
-        ends: &mut [u64],
-        picks: &mut [u8],
-        out: &mut [u64],
-    ) -> u64 {
-        if out.len() < out_length::VERDICT {
-            return TOO_SHORT;
-        }
-        let mut lent = Lent { local, marks, configurations, trail, plans, ends, picks };
-        match (self.verdict)(task, &mut lent) {
-            Ok(numbers) => give(out, &numbers),
-            Err(refusal) => refusal,
-        }
-    }
-
-    fn read(&self, text: &[u8], words: &mut [u64], out: &mut [u64]) -> u64 {
-        Fast.read(text, words, out)
+impl Twin for Wrong {
+    fn judge(&self, task: &[u64], lent: &mut Lent) -> Result<[u64; 3], u64> {
+        (self.verdict)(task, lent)
     }
 }
