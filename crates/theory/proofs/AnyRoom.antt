@@ -8,7 +8,7 @@ use Prim.Native.Nat.{ℕ, _≤_, _<_}
 use native.Mathlib.Omega.{arith}
 use lib.ListN.{length, getD}
 use lib.Dec.{eqb, ltb}
-use borrow.Author.Tests.{eqb-true, ltb-true}
+use borrow.Author.Tests.{eqb-true}
 use Rattle.semantics.specs.Base.{upTo, anyOf, Answer, gives, _if_, _else_}
 use Rattle.semantics.specs.Task.{check}
 use Rattle.semantics.specs.System.{System, Waits, result, Lawful, system, waits}
@@ -16,7 +16,7 @@ use Rattle.semantics.specs.Solo.{soloNext, copies, liveOf}
 use Rattle.semantics.specs.Completion.{completion}
 use Rattle.semantics.specs.Run.{Fault}
 use Rattle.semantics.specs.Verdict.{sameRow, Row, localCopy, sharedCopy, startRow, ready, moves, configurations}
-use Rattle.semantics.specs.Verdict.{collides, faults, ownMoves, colliding, waiting, goesOn, lastPick, restAt, Conflict}
+use Rattle.semantics.specs.Verdict.{collides, ownMoves, colliding, waiting, goesOn, lastPick, restAt, Conflict}
 use Rattle.semantics.specs.Verdict.{conflictBy, faulty, firstConflict, walkTo, Verdict, unsolvable, notRobust, robust}
 use Rattle.semantics.specs.Verdict.{Room, localRows, configurationRows, tooShort, allLive, liveIn, liveFor, listedWith}
 use Rattle.semantics.specs.Verdict.{verdictIn, verdict}
@@ -28,10 +28,10 @@ use Rattle.theory.proofs.Accepted.{accepted-lawful}
 use Rattle.theory.proofs.Listing.{listing-same}
 use Rattle.theory.proofs.Live.{copies-nodup, copies-closed}
 use Rattle.theory.proofs.Completion.{live-near, near-nearest, completion-is}
-use Rattle.theory.proofs.Rows.{ready-live, good-reach, live-reach}
-use Rattle.theory.proofs.Faults.{Shown, faults-shown, collides-is, goes-blocked, waiting-stuck, missed-kind}
-use Rattle.theory.proofs.Verdict.{Fits, liveFor-is, liveFor-sound, liveFor-test, listed-reach, Searched, Found}
-use Rattle.theory.proofs.Verdict.{found}
+use Rattle.theory.proofs.Rows.{ready-live}
+use Rattle.theory.proofs.Faults.{Shown, faults-shown, faulty-shown, collides-is, goes-blocked}
+use Rattle.theory.proofs.Faults.{waiting-stuck, missed-kind}
+use Rattle.theory.proofs.Verdict.{Fits, liveFor-is, Searched, listed-live, Found, found}
 
 module _ (S : System) (W : Waits S) (lawful : Lawful S W) where
   -- ---- local copies, and which are live
@@ -184,16 +184,11 @@ module _ (S : System) (W : Waits S) (lawful : Lawful S W) where
         let rows = listedWith S K C in
         let (k, f) = first-index (faulty S W live) (startRow S) rows some in
         let row = getD rows k (startRow S) in
-        let reach = listed-reach S W lawful K C row (mem-getD rows k (startRow S) (f .below)) in
-        let test = liveFor-test S W lawful K (s .fits) in
-        let shown = faults-shown S W live row
-        (mem-getD (faults S W live row) 0 Fault.collision (ltb-true 0 (length (faults S W live row)) (f .passes))) in
+        let shown = faults-shown S W live row (faulty-shown S W live row (f .passes)) in
         rw (first-at (faulty S W live) (startRow S) rows k f)
         (conflict-same live (λ i. completion S i K) (λ i. completion S i L)
         (λ i h x e. completion-same K L (s .fits) b i h x e) row
-        (λ j h. test .complete j (localCopy S row j) h (good-reach S live (lawful .owned) reach .locals j h)
-        (live-reach S live (lawful .owned) test
-        (λ i l. liveFor-sound S W lawful K i (S .init) l (s .solvable i l)) reach j h))
+        (listed-live S W lawful K C s row (mem-getD rows k (startRow S) (f .below)))
         shown (walkTo S live rows row))
 
     by-either : Fits S W lawful L → Searched S W lawful K C
