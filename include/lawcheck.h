@@ -69,7 +69,7 @@ enum {
 enum {
     LAWCHECK_STEP_OUT = 2,
     LAWCHECK_SOLO_REPLAY_OUT = 2,
-    LAWCHECK_SOLO_SEARCH_OUT = 2,
+    LAWCHECK_SOLO_SEARCH_OUT = 3,
     LAWCHECK_JOINT_REPLAY_OUT = 4,
     LAWCHECK_PICK_OUT = 1,
     LAWCHECK_VERDICT_OUT = 3,
@@ -143,8 +143,8 @@ uint64_t lawcheck_solo_replay(const uint64_t *task, size_t task_len, uint8_t mem
  *
  * After an answer the table holds the copies and marks holds 1 for each live one (some steps lead
  * from it to the goal) and 0 for each dead one; unused entries of both are zero.
- * out: the count of copies; 1 where I is live, else 0.
- * Refuses with 14 where out_len is below 2; the task check; 8 no such member; 14 marks shorter than
+ * out: the count of copies; 1 where I is live, else 0; the number of marks that are 1.
+ * Refuses with 14 where out_len is below 3; the task check; 8 no such member; 14 marks shorter than
  * the table; 9 exactly where the copies exceed the table.
  */
 uint64_t lawcheck_solo_search(const uint64_t *task, size_t task_len, uint8_t member,

@@ -138,7 +138,10 @@ static void single_operations(void)
 {
     static const uint16_t plan[] = {0, 1};
     const uint64_t shared = 1;
-    uint64_t table[4], out[2] = {99, 99};
+    /* L8 of the scope paper: member 0's one step loses its goal for good. */
+    static const uint64_t losing[] = {2, 2, 2, 1, 0, 0, 1, 0, 0, 0, 1, 1, 0, 0, 0,
+                                      0, 0, 0, 2, 1, 1, 1, 0, 1, 0};
+    uint64_t table[4], out[2] = {99, 99}, found[LAWCHECK_SOLO_SEARCH_OUT] = {99, 99, 99};
     uint8_t live[4];
     expect(lawcheck_task(LAW, WORDS) == 0, "the law is accepted");
     expect(lawcheck_task(LAW, WORDS - 1) == LAWCHECK_LENGTH, "a cut law is refused");
@@ -155,11 +158,17 @@ static void single_operations(void)
     expect(lawcheck_solo_replay(LAW, WORDS, 0, plan, 1, out, 2) == 0 &&
                out[0] == LAWCHECK_GOAL_SHORT,
            "half of it is short");
-    expect(lawcheck_solo_search(LAW, WORDS, 0, table, 4, live, 4, out, 2) == 0 && out[0] == 4 &&
-               out[1] == 1,
-           "member 0 has four copies and a plan");
-    expect(lawcheck_solo_search(LAW, WORDS, 0, table, 3, live, 3, out, 2) == LAWCHECK_FULL &&
-               table[0] == 0,
+    expect(lawcheck_solo_search(LAW, WORDS, 0, table, 4, live, 4, found, 2) == LAWCHECK_SHORT &&
+               found[0] == 99,
+           "a search tells three numbers");
+    expect(lawcheck_solo_search(LAW, WORDS, 0, table, 4, live, 4, found, 3) == 0 && found[0] == 4 &&
+               found[1] == 1 && found[2] == 4,
+           "member 0 has four copies and a plan, and all four are live");
+    expect(lawcheck_solo_search(losing, 25, 0, table, 4, live, 4, found, 3) == 0 && found[0] == 2 &&
+               found[1] == 1 && found[2] == 1 && live[0] == 1 && live[1] == 0,
+           "one of two copies is live");
+    expect(lawcheck_solo_search(LAW, WORDS, 0, table, 3, live, 3, found, 3) == LAWCHECK_FULL &&
+               table[0] == 0 && found[2] == 1,
            "three rows are too few");
 }
 

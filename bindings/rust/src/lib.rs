@@ -146,6 +146,8 @@ pub struct SoloSearch {
     pub copies: u64,
     /// Whether I is live: the member has a plan.
     pub live: bool,
+    /// The copies that are live: the rows marked 1.
+    pub marked: u64,
 }
 
 /// A member's reachable local copies, in breadth order, and a mark 1 for each live one.
@@ -157,7 +159,7 @@ pub fn solo_search(
 ) -> Result<SoloSearch, Refusal> {
     let mut out = [0; raw::SOLO_SEARCH_OUT];
     answered(raw::solo_search(task, member, table, marks, &mut out))?;
-    Ok(SoloSearch { copies: out[0], live: out[1] == 1 })
+    Ok(SoloSearch { copies: out[0], live: out[1] == 1, marked: out[2] })
 }
 
 /// How a run stands.

@@ -18,7 +18,7 @@ constants! {
     u64: LENGTH = 1, RANGE = 2, GOAL_ROW = 3, FACT = 4, OWNER = 5, WAIT = 6, ACTION = 7, MEMBER = 8,
         FULL = 9, OTHERS = 10, ENDS = 11, NO_SOLUTION = 12, PICK = 13, SHORT = 14, TEXT = 15,
         PDDL = 16, NAME = 17, MANY = 18;
-    usize: STEP_OUT = 2, SOLO_REPLAY_OUT = 2, SOLO_SEARCH_OUT = 2, JOINT_REPLAY_OUT = 4,
+    usize: STEP_OUT = 2, SOLO_REPLAY_OUT = 2, SOLO_SEARCH_OUT = 3, JOINT_REPLAY_OUT = 4,
         PICK_OUT = 1, VERDICT_OUT = 3, READ_OUT = 1, PDDL_READ_OUT = 1, PDDL_WRITE_OUT = 2,
         RUN_WORDS = 10, TEXT_WORDS = 1325, PDDL_BYTES = 1048576;
     u64: STEP_GO = 0, STEP_WAIT = 1, STEP_COLLISION = 2;
@@ -64,7 +64,8 @@ pub fn solo_replay(task: &[u64], member: u8, plan: &[u16], out: &mut [u64]) -> u
     }
 }
 
-/// A member's reachable local copies and live marks. `out`: the count; 1 where I is live.
+/// A member's reachable local copies and live marks. `out`: the count; 1 where I is live; the
+/// number of marks that are 1.
 pub fn solo_search(
     task: &[u64],
     member: u8,

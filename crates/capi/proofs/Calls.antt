@@ -168,30 +168,30 @@ module _ (t plans ends picks out : List ℕ) where
 module _ (t table marks out : List ℕ) (member : ℕ) where
   abbrev SearchCall : List ℕ → List ℕ → Call → Type 0
   SearchCall table′ marks′ c =
-      (c ≡ called (ltb (length out) 2) numbers.searched out (soloSearch t member table marks .answer))
-      × ((table′ ≡ unlessShort (ltb (length out) 2) table (soloSearch t member table marks .table))
-      × (marks′ ≡ unlessShort (ltb (length out) 2) marks (soloSearch t member table marks .marks)))
+      (c ≡ called (ltb (length out) 3) numbers.searched out (soloSearch t member table marks .answer))
+      × ((table′ ≡ unlessShort (ltb (length out) 3) table (soloSearch t member table marks .table))
+      × (marks′ ≡ unlessShort (ltb (length out) 3) marks (soloSearch t member table marks .marks)))
 
-  pub search-short : length out < 2 → SearchCall table marks (call 14 out)
+  pub search-short : length out < 3 → SearchCall table marks (call 14 out)
   search-short h =
-      let e = lt-ltb (length out) 2 h in (
-        short-call numbers.searched out (soloSearch t member table marks .answer) (ltb (length out) 2) e,
+      let e = lt-ltb (length out) 3 h in (
+        short-call numbers.searched out (soloSearch t member table marks .answer) (ltb (length out) 3) e,
         (
-          short-slice table (soloSearch t member table marks .table) (ltb (length out) 2) e,
-          short-slice marks (soloSearch t member table marks .marks) (ltb (length out) 2) e,
+          short-slice table (soloSearch t member table marks .table) (ltb (length out) 3) e,
+          short-slice marks (soloSearch t member table marks .marks) (ltb (length out) 3) e,
         ),
       )
 
-  module _ (room : 2 ≤ length out) (s : SearchAnswer) (table′ marks′ : List ℕ)
+  module _ (room : 3 ≤ length out) (s : SearchAnswer) (table′ marks′ : List ℕ)
       (is : searchedOf s table′ marks′ ≡ soloSearch t member table marks) where
-    slices : (c : Call) → c ≡ called (ltb (length out) 2) numbers.searched out (soloSearch t member table marks .answer)
+    slices : (c : Call) → c ≡ called (ltb (length out) 3) numbers.searched out (soloSearch t member table marks .answer)
         → SearchCall table′ marks′ c
     slices c e = (
       e,
       (
-        called-slice table (soloSearch t member table marks .table) (ltb (length out) 2) table′ (long out 2 room)
+        called-slice table (soloSearch t member table marks .table) (ltb (length out) 3) table′ (long out 3 room)
             (ap (λ (x : SoloSearch). x .table) is),
-        called-slice marks (soloSearch t member table marks .marks) (ltb (length out) 2) marks′ (long out 2 room)
+        called-slice marks (soloSearch t member table marks .marks) (ltb (length out) 3) marks′ (long out 3 room)
             (ap (λ (x : SoloSearch). x .marks) is),
       ),
     )
@@ -199,19 +199,19 @@ module _ (t table marks out : List ℕ) (member : ℕ) where
     pub search-refused : (k : ℕ) → s ≡ search′.Refused k → SearchCall table′ marks′ (call k out)
     search-refused k so =
         slices (call k out)
-        (refused-call numbers.searched out (soloSearch t member table marks .answer) (ltb (length out) 2) k
-        (long out 2 room)
+        (refused-call numbers.searched out (soloSearch t member table marks .answer) (ltb (length out) 3) k
+        (long out 3 room)
         (sym (ap (λ (x : SoloSearch). x .answer) is)
         ∙ ap (λ (x : SearchAnswer). searchedOf x table′ marks′ .answer) so))
 
-    pub search-given : (count : ℕ) (live : Bool) (now : List ℕ) → s ≡ search′.Gives count live
-        → now ≡ front (count ∷ boolByte live ∷ []) out → SearchCall table′ marks′ (call 0 now)
-    search-given count live now so put =
+    pub search-given : (count : ℕ) (live : Bool) (marked : ℕ) (now : List ℕ) → s ≡ search′.Gives count live marked
+        → now ≡ front (count ∷ boolByte live ∷ marked ∷ []) out → SearchCall table′ marks′ (call 0 now)
+    search-given count live marked now so put =
         slices (call 0 now)
-        (given-call numbers.searched out (soloSearch t member table marks .answer) (ltb (length out) 2)
-        (record { count = count; live = live }) now (long out 2 room)
+        (given-call numbers.searched out (soloSearch t member table marks .answer) (ltb (length out) 3)
+        (record { count = count; live = live; marked = marked }) now (long out 3 room)
         (sym (ap (λ (x : SoloSearch). x .answer) is) ∙ ap (λ (x : SearchAnswer). searchedOf x table′ marks′ .answer) so)
-        (put ∙ ap (λ (x : ℕ). front (count ∷ x ∷ []) out) (byte live)))
+        (put ∙ ap (λ (x : ℕ). front (count ∷ x ∷ marked ∷ []) out) (byte live)))
 
 -- ---- a pick on a run
 

@@ -103,26 +103,26 @@ pub extern "C" fn lawcheck_solo_search(
     out: &mut [u64],
 ) -> u64
     ensures { λ r. ⌜ call r (now (out .exit))
-        ≡ called (ltb (length (now (out .entry))) 2) numbers.searched (now (out .entry))
+        ≡ called (ltb (length (now (out .entry))) 3) numbers.searched (now (out .entry))
         (soloSearch (now (t .entry)) member (now (table .entry))
         (now (marks .entry)) .answer) ⌝ }
     ensures { λ _. ⌜ now (table .exit)
-        ≡ unlessShort (ltb (length (now (out .entry))) 2) (now (table .entry))
+        ≡ unlessShort (ltb (length (now (out .entry))) 3) (now (table .entry))
         (soloSearch (now (t .entry)) member (now (table .entry))
         (now (marks .entry)) .table) ⌝ }
     ensures { λ _. ⌜ now (marks .exit)
-        ≡ unlessShort (ltb (length (now (out .entry))) 2) (now (marks .entry))
+        ≡ unlessShort (ltb (length (now (out .entry))) 3) (now (marks .entry))
         (soloSearch (now (t .entry)) member (now (table .entry))
         (now (marks .entry)) .marks) ⌝ }
 {
-    if out.len() < 2 {
+    if out.len() < 3 {
         return SHORT;
     }
     let s = solo_search::solo_search(t, member, table, marks);
     match s {
         SearchAnswer::Refused(k) => k,
-        SearchAnswer::Gives(count, live) => {
-            let numbers = [count as u64, live as u64];
+        SearchAnswer::Gives(count, live, marked) => {
+            let numbers = [count as u64, live as u64, marked as u64];
             capi_numbers::put(out, &numbers);
             0
         }

@@ -22,7 +22,7 @@ solo short = 2 ∷ 0 ∷ []
 
 -- the count; 1 where I is live
 abbrev pub searched : Searched → List ℕ
-searched s = s .count ∷ (1 if s .live) ∷ []
+searched s = s .count ∷ (1 if s .live) ∷ s .marked ∷ []
 
 -- 0 success, 1 collision, 2 deadlock, 3 missed, 4 open; member; picks done; shared copy
 abbrev pub replayed : Outcome → ℕ → ℕ → List ℕ

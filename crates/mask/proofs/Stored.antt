@@ -2,10 +2,11 @@
 use mathlib.Core.Path.{_≡_, refl, sym, ap, _∙_}
 use mathlib.Core.List.{List, [], _∷_, _++_, map, flatten}
 use Prim.Native.Nat.{ℕ, suc, _*_, _/_, _≤_, _<_}
-use native.Mathlib.Nat.{not-suc-le-zero, mul-one, div-one}
+use native.Mathlib.Nat.{mul-one, div-one}
 use native.Mathlib.Omega.{arith}
 use lib.ListN.{length, getD, take, length-set}
-use lib.Seq.{getD-take, length-take-le, take-suc, take-take, take-append-le}
+use lib.Seq.{getD-take, getD-set-same, getD-set-other, length-take-le, take-suc-set, take-take}
+use lib.Seq.{take-append-le}
 use Rattle.semantics.specs.Words.{wordsOf, stateWidth, statesIn, wordsFor, inWords}
 use Rattle.theory.proofs.Lists.{getD-any}
 use Rattle.mask.specs.Inner.Stored.{maskAt, firstMasks, withMask}
@@ -38,15 +39,16 @@ module _ (t : List ℕ) (n : ℕ) (fits : n ≤ statesIn (length t)) where
 pub first-words : (t : List ℕ) (n : ℕ) → take (wordsFor n) t ≡ inWords (firstMasks t n)
 first-words t n = refl
 
--- one mask more
-pub first-suc : (t : List ℕ) (n : ℕ) → n < statesIn (length t)
-    → firstMasks t (suc n) ≡ firstMasks t n ++ (maskAt t n ∷ [])
-first-suc t n h = take-suc t n 0 h
+-- the mask itself, the others, and one mask more
+module _ (t : List ℕ) (n x : ℕ) where
+  pub with-same : n < statesIn (length t) → maskAt (withMask t n x) n ≡ x
+  with-same h = getD-set-same t n x 0 h
 
--- the mask at the front
-pub with-first : (t : List ℕ) (x : ℕ) → stateWidth ≤ length t → firstMasks (withMask t 0 x) 1 ≡ x ∷ []
-with-first [] x h = absurd (not-suc-le-zero h)
-with-first (y ∷ t) x h = refl
+  pub with-other : (k : ℕ) → (k ≡ n → ⊥) → maskAt (withMask t n x) k ≡ maskAt t k
+  with-other k ne = getD-set-other t n k x 0 ne
+
+  pub first-with : n < statesIn (length t) → firstMasks (withMask t n x) (suc n) ≡ firstMasks t n ++ (x ∷ [])
+  first-with h = take-suc-set t n x h
 
 -- as many words as before
 pub with-length : (t : List ℕ) (k x : ℕ) → length (withMask t k x) ≡ length t

@@ -7,7 +7,7 @@ use Rattle.semantics.specs.Mask.{within, after, below}
 use Rattle.semantics.specs.Task.{headFits, goalRow, actionRow, check}
 use Rattle.semantics.specs.Step.{routine, step}
 use Rattle.semantics.specs.Listing.{addNew, addAll, grow}
-use Rattle.semantics.specs.Solo.{soloFrom, soloNext, copies, leadingTo, liveOf}
+use Rattle.semantics.specs.Solo.{soloFrom, soloNext, copies, leadingTo, liveOf, marksOf, ones, soloSearch}
 use Rattle.semantics.specs.Completion.{near, nearing, stepsIn, distance, completion}
 use Rattle.semantics.specs.Run.{start, rest, missedIn, pickStep, pick, pickable, stepsLeft, outcome, replayOn}
 use Rattle.semantics.specs.Run.{replay, endsFit, plansRefusal, jointReplay}
@@ -15,7 +15,7 @@ use Rattle.semantics.specs.Verdict.{sameRow, moved, ready, moves, config
 use Rattle.semantics.specs.Verdict.{deadlocked, faults, leadsBy, actionTo, sourceOf, walkIn, colliding, waiting}
 use Rattle.semantics.specs.Verdict.{goesOn, lastPick, restAt, conflictBy, firstConflict, solvableElse, verdictIn}
 use Rattle.semantics.specs.Verdict.{verdict}
-use Rattle.semantics.proofs.Table.{table, further, AllHold}
+use Rattle.semantics.proofs.Table.{table, further, searches, AllHold}
 
 pub laws-hold : AllHold table
 unfolding anyOf allOf collect flatten keep numbersFrom firstRefusal within after below headFits goalRow actionRow check
@@ -38,3 +38,8 @@ further-hold =
     let later : AllHold (drop 12 further) =
     (refl, (refl, (refl, (refl, (refl, (refl, (refl, (refl, (refl, (refl, (refl, (refl, last)))))))))))) in
     (refl, (refl, (refl, (refl, (refl, (refl, (refl, (refl, (refl, (refl, (refl, (refl, later))))))))))))
+
+pub searches-hold : AllHold searches
+unfolding anyOf allOf collect keep numbersFrom firstRefusal within after below headFits goalRow actionRow check addNew
+    addAll grow soloNext copies leadingTo liveOf marksOf ones soloSearch
+searches-hold = (refl, (refl, (refl, (refl, tt))))

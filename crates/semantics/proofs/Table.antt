@@ -1,11 +1,13 @@
 -- Document 01, "Laws to try": L1 to L12 and what it says of them, as rows of one table.
 use mathlib.Core.Path.{_≡_}
+use mathlib.Core.Bool.{Bool, true, false}
 use mathlib.Core.List.{List, [], _∷_, _++_}
 use Prim.Native.Nat.{ℕ, _+_, _*_}
-use lib.ListN.{set}
+use lib.ListN.{set, replicate}
 use Rattle.semantics.specs.Base.{Answer, refused, gives}
 use Rattle.semantics.specs.Task.{rowWidth, members, check}
 use Rattle.semantics.specs.Step.{Decision, go, wait, step}
+use Rattle.semantics.specs.Solo.{SoloSearch, refusedWith, soloSearch}
 use Rattle.semantics.specs.Run.{Fault, collision, deadlock, missed, Outcome, success, failure, still-open, Replay}
 use Rattle.semantics.specs.Run.{jointReplay}
 use Rattle.semantics.specs.Verdict.{Verdict, unsolvable, notRobust, robust, Conflict, Room, lentOf, localRows}
@@ -106,13 +108,15 @@ allEnded = with 2 1 32 endedWaits
 -- ---- what the paper says of them
 
 -- a row of the table: a law's verdict with so many local and configuration words, the other slices as long as asked; a
--- replay's answer; the configurations that are listed; the task check's refusal; a step's answer
+-- replay's answer; the configurations that are listed; the task check's refusal; a step's answer; solo search in a
+-- table of so many words, with as many marks
 pub data Claim : Type 0 where
   verdictOf : List ℕ → ℕ → ℕ → Answer (Verdict Conflict) → Claim
   replayOf : List ℕ → List ℕ → List ℕ → List ℕ → Answer (Replay ℕ) → Claim
   listedOf : List ℕ → List (List ℕ) → Claim
   checkOf : List ℕ → ℕ → Claim
   stepOf : List ℕ → ℕ → ℕ → Answer (Decision ℕ) → Claim
+  searchOf : List ℕ → ℕ → ℕ → SoloSearch → Claim
 
 -- the lengths asked for
 abbrev pub roomFor : List ℕ → ℕ → ℕ → Room
@@ -131,6 +135,7 @@ Holds (replayOf t plans ends picks r) = jointReplay t plans ends picks ≡ r
 Holds (listedOf t rows) = listedIn t (roomFor t plenty plenty) ≡ rows
 Holds (checkOf t k) = check t ≡ k
 Holds (stepOf t a g d) = step t a g ≡ d
+Holds (searchOf t i n s) = soloSearch t i (replicate n 7) (replicate n 7) ≡ s
 
 abbrev pub AllHold : List Claim → Type 0
 AllHold [] = Unit {0}
@@ -143,6 +148,15 @@ ends o g k = gives (record { outcome = o; shared = g; picked = k })
 abbrev pub conflict : Fault → ℕ → List (List ℕ) → List ℕ → Answer (Verdict Conflict)
 conflict f k plans picks =
     gives (notRobust (record { told = record { fault = f; picked = k }; plans = plans; picks = picks }))
+
+-- the rows that are found, so many of them live, I or not
+abbrev pub finds : ℕ → Bool → ℕ → List ℕ → List ℕ → SoloSearch
+finds count live marked table marks =
+    record {
+      answer = gives (record { count = count; live = live; marked = marked });
+      table = table;
+      marks = marks;
+    }
 
 abbrev pub table : List Claim
 table =
@@ -200,4 +214,13 @@ further =
     ∷ replayOf l1 (0 ∷ 1 ∷ 2 ∷ 3 ∷ []) (2 ∷ 4 ∷ []) (2 ∷ 0 ∷ []) (refused 8)
     ∷ replayOf l1 (0 ∷ 1 ∷ 2 ∷ 3 ∷ []) (2 ∷ 4 ∷ []) (0 ∷ 1 ∷ 2 ∷ []) (refused 13)
     ∷ replayOf l1 (0 ∷ 1 ∷ 2 ∷ 3 ∷ []) (2 ∷ 4 ∷ []) (0 ∷ []) (ends still-open 2 1)
+    ∷ []
+
+-- solo searches: all live, one live and one dead, none live, and one row too few
+abbrev pub searches : List Claim
+searches =
+    searchOf l1 0 5 (finds 4 true 4 (1 ∷ 2 ∷ 5 ∷ 6 ∷ 0 ∷ []) (1 ∷ 1 ∷ 1 ∷ 1 ∷ 0 ∷ []))
+    ∷ searchOf l8 0 4 (finds 2 true 1 (1 ∷ 2 ∷ 0 ∷ 0 ∷ []) (1 ∷ 0 ∷ 0 ∷ 0 ∷ []))
+    ∷ searchOf l4 1 4 (finds 4 false 0 (1 ∷ 8 ∷ 17 ∷ 24 ∷ []) (0 ∷ 0 ∷ 0 ∷ 0 ∷ []))
+    ∷ searchOf l1 0 3 (refusedWith (0 ∷ 0 ∷ 0 ∷ []) (0 ∷ 0 ∷ 0 ∷ []) 9)
     ∷ []

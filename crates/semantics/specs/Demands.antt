@@ -43,7 +43,7 @@ use Rattle.semantics.specs.Task.{check, facts, members, actions, owner}
 use Rattle.semantics.specs.System.{System, Waits, result, system, waits, Choice}
 use Rattle.semantics.specs.Listing.{addAll}
 use Rattle.semantics.specs.Step.{Decision, stepRefusal, step}
-use Rattle.semantics.specs.Solo.{Solo, soloRefusal, soloReplay, soloNext, searchRefusal, soloSearch}
+use Rattle.semantics.specs.Solo.{Solo, soloRefusal, soloReplay, soloNext, Searched, searchRefusal, soloSearch}
 use Rattle.semantics.specs.Run.{Run, Fault, not-yet, isClosed, Reply, Replied, Outcome, success, failure}
 use Rattle.semantics.specs.Run.{still-open, isSuccess, isOpen, Replay, rest, stepped, closedBy, passOver, start}
 use Rattle.semantics.specs.Run.{outcome, play, beginning, planOf, plansOf, plansRefusal, jointReplay, startOf}
@@ -209,16 +209,16 @@ pub record SearchedRows (t : List ℕ) (i : ℕ) (rows marks : List ℕ) : Type 
 pub record SoloSearchAgrees (t : List ℕ) (i : ℕ) (table marks : List ℕ) : Type 0 where
   -- 9 exactly when the reachable copies exceed the table
   pub full : (soloSearch t i table marks .answer ≡ refused 9) ↔ Exceed 0 (Reachable t i) (length table)
-  -- else an answer: the number of reachable copies, at most the table's length, and whether I is live
-  pub counted : (count : ℕ) (live : Bool)
-      → (soloSearch t i table marks .answer ≡ gives (record { count = count; live = live }))
-      ↔ ((count ≤ length table)
-      × ((xs : List ℕ) × Lists 0 (Reachable t i) xs × (length xs ≡ count))
-      × ((live ≡ true) ↔ Solvable t i))
-  -- and the rows
-  pub rows : (count : ℕ) (live : Bool)
-      → soloSearch t i table marks .answer ≡ gives (record { count = count; live = live })
-      → SearchedRows t i (take count (soloSearch t i table marks .table)) (soloSearch t i table marks .marks)
+  -- else an answer: the number of reachable copies, at most the table's length, whether I is live, and the number of
+  -- those copies from which the agent can go on to its goal
+  pub counted : (c : Searched) → (soloSearch t i table marks .answer ≡ gives c)
+      ↔ ((c .count ≤ length table)
+      × ((xs : List ℕ) × Lists 0 (Reachable t i) xs × (length xs ≡ c .count))
+      × ((c .live ≡ true) ↔ Solvable t i)
+      × ((xs : List ℕ) × Lists 0 (λ s. Reachable t i s × Completable t i s) xs × (length xs ≡ c .marked)))
+  -- and the rows, of which so many are marked 1
+  pub rows : (c : Searched) → soloSearch t i table marks .answer ≡ gives c
+      → SearchedRows t i (take (c .count) (soloSearch t i table marks .table)) (soloSearch t i table marks .marks)
 
 pub record Demand2 : Type 0 where
   pub stepAgrees : (t : List ℕ) (a g : ℕ) → stepRefusal t a g ≡ 0 → StepAgrees t a g

@@ -16,6 +16,7 @@ pub mod Lists
 pub mod Live
 pub mod Loops
 pub mod Lonely
+pub mod Marks
 pub mod Masks
 pub mod Picks
 pub mod Plans

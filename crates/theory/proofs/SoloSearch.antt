@@ -11,23 +11,25 @@ use lib.ListN.{length, getD, take, replicate, length-map, List·getD-append}
 use lib.Seq.{take-append-seam}
 use lib.Dec.{eqb}
 use borrow.Author.Tests.{lt-ltb, le-ltb}
-use Rattle.semantics.specs.Base.{_if_, refused, gives, padded}
+use Rattle.semantics.specs.Base.{_if_, keep, refused, gives, padded}
 use Rattle.semantics.specs.Mask.{after}
 use Rattle.semantics.specs.Task as Task
 use Rattle.semantics.specs.Task.{check}
 use Rattle.semantics.specs.System.{Lawful, system, waits, Live}
 use Rattle.semantics.specs.Listing.{mem, Reach, here, step}
-use Rattle.semantics.specs.Solo.{soloNext, copies, liveOf, marksOf, Searched, SoloSearch, searchRefusal, soloSearch}
+use Rattle.semantics.specs.Solo.{soloNext, copies, liveOf, marksOf, ones, Searched, SoloSearch, searchRefusal}
+use Rattle.semantics.specs.Solo.{soloSearch}
 use Rattle.semantics.specs.Model.{FactSet, _⊆_, apply, Executes, none, then}
 use Rattle.semantics.specs.Demands.{factsOf, setting, Reachable, Completable, Solvable, Distinct, Lists, Exceed}
 use Rattle.semantics.specs.Demands.{Breadth, SearchedRows, SoloSearchAgrees}
-use Rattle.theory.proofs.Lists.{getD-map, lt-or-ge, mem-getD, test-ext}
+use Rattle.theory.proofs.Lists.{getD-map, lt-or-ge, mem-getD, test-ext, filter-mem, mem-filter}
 use Rattle.theory.proofs.Refusals.{else-both, refused-gives, gives-inj}
 use Rattle.theory.proofs.Masks.{sub-within}
 use Rattle.theory.proofs.Accepted.{accepted-lawful}
 use Rattle.theory.proofs.Agrees.Step.{facts-after, same-facts}
 use Rattle.theory.proofs.Agrees.Solo.{leads-iff}
-use Rattle.theory.proofs.Listing.{nodup-index, index-nodup, pigeonhole, listing-breadth}
+use Rattle.theory.proofs.Listing.{nodup-index, index-nodup, nodup-filter, pigeonhole, listing-breadth}
+use Rattle.theory.proofs.Marks.{ones-map}
 use Rattle.theory.proofs.Attempts.{result-after, within-goes, able-sub}
 use Rattle.theory.proofs.Live.{Steps, goes-steps, soloNext-steps, steps-soloNext, copies-nodup, copies-reachable}
 use Rattle.theory.proofs.Live.{reachable-copies, live-sound, copies-live}
@@ -103,10 +105,18 @@ module _ (t : List ℕ) (i : ℕ) (table marks : List ℕ)
   unfolding soloSearch
   search-full l = rw (accepts, lt-ltb (length table) (length rows) l)
 
+  abbrev told : Searched
+  told =
+      record {
+        count = length rows;
+        live = mem eqb (system t .init) (liveOf (system t) i rows);
+        marked = ones (marksOf (system t) i rows);
+      }
+
   abbrev found : SoloSearch
   found =
       record {
-        answer = gives (record { count = length rows; live = mem eqb (system t .init) (liveOf (system t) i rows) });
+        answer = gives told;
         table = padded (length table) rows;
         marks = padded (length marks) (marksOf (system t) i rows);
       }
@@ -177,8 +187,26 @@ module _ (t : List ℕ) (i : ℕ) (table marks : List ℕ)
       (λ b. let p = most b (x .some) (x .distinct) (x .each) in omega (arith, x .more))
       (lt-or-ge (length table) (length rows))
 
-  answered : length rows ≤ length table
-      → soloSearch t i table marks .answer ≡ gives (record { count = length rows; live = startLive })
+  -- the live ones of them, and how many they are
+  abbrev liveRows : List ℕ
+  liveRows = keep (λ s. mem eqb s (liveOf (system t) i rows)) rows
+
+  live-listed : length rows ≤ length table → Lists 0 (λ s. Reachable t i s × Completable t i s) liveRows
+  live-listed b =
+      let live : ℕ → Bool = λ s. mem eqb s (liveOf (system t) i rows) in
+      record {
+        distinct = nodup-index 0 (nodup-filter live (copies-nodup (system t) (waits t) lawful i (length table)));
+        just = λ s. (
+          λ m. let r = filter-mem live rows m in (found-reachable b s .0 (r .0), found-live b s (r .0) .0 (r .1)),
+          λ p. let m = found-reachable b s .1 (p .0) in mem-filter live m (found-live b s m .1 (p .1)),
+        );
+      }
+
+  live-many : length liveRows ≡ ones (marksOf (system t) i rows)
+  unfolding marksOf
+  live-many = sym (ones-map (λ s. mem eqb s (liveOf (system t) i rows)) rows)
+
+  answered : length rows ≤ length table → soloSearch t i table marks .answer ≡ gives told
   answered b = ap (λ (r : SoloSearch). r .answer) (search-found b)
 
   full-exceeds : soloSearch t i table marks .answer ≡ refused 9 → Exceed 0 (Reachable t i) (length table)
@@ -198,14 +226,16 @@ module _ (t : List ℕ) (i : ℕ) (table marks : List ℕ)
       (c .count ≤ length table)
       × ((xs : List ℕ) × Lists 0 (Reachable t i) xs × (length xs ≡ c .count))
       × ((c .live ≡ true) ↔ Solvable t i)
+      × ((xs : List ℕ) × Lists 0 (λ s. Reachable t i s × Completable t i s) xs × (length xs ≡ c .marked))
 
   answer-counted : (c : Searched) → soloSearch t i table marks .answer ≡ gives c → Counted c
   answer-counted c e =
       let b = answer-fits c e in
-      subst Counted (gives-inj (sym (answered b) ∙ e)) (b, (rows, rows-listed b, refl), start-live b)
+      subst Counted (gives-inj (sym (answered b) ∙ e))
+      (b, (rows, rows-listed b, refl), start-live b, (liveRows, live-listed b, live-many))
 
   counted-answer : (c : Searched) → Counted c → soloSearch t i table marks .answer ≡ gives c
-  counted-answer c (few, (xs, l, n), live) =
+  counted-answer c (few, (xs, l, n), live, (ys, h, k)) =
       let back : length rows ≤ length xs =
       pigeonhole xs (copies-nodup (system t) (waits t) lawful i (length table))
       (λ x m. l .just x .1 (rows-reachable x m)) in
@@ -214,7 +244,13 @@ module _ (t : List ℕ) (i : ℕ) (table marks : List ℕ)
       let count : length rows ≡ c .count = omega arith in
       let same : startLive ≡ c .live =
       test-ext startLive (c .live) (λ h. live .1 (start-live b .0 h)) (λ h. start-live b .1 (live .0 h)) in
-      answered b ∙ (λ k. gives (record { count = count k; live = same k }))
+      let ours = live-listed b in
+      let few-live =
+      pigeonhole ys (index-nodup 0 liveRows (ours .distinct)) (λ s m. h .just s .1 (ours .just s .0 m)) in
+      let all-live =
+      pigeonhole liveRows (index-nodup 0 ys (h .distinct)) (λ s m. ours .just s .1 (h .just s .0 m)) in
+      let marked : ones (marksOf (system t) i rows) ≡ c .marked = omega (arith, live-many) in
+      answered b ∙ (λ j. gives (record { count = count j; live = same j; marked = marked j }))
 
   answer-rows : (c : Searched) → soloSearch t i table marks .answer ≡ gives c
       → SearchedRows t i (take (c .count) (soloSearch t i table marks .table)) (soloSearch t i table marks .marks)
@@ -238,8 +274,6 @@ solo-search-agrees t i table marks accepts =
         full-exceeds t i table marks accepts,
         λ x. search-full t i table marks accepts (exceeds t i table marks accepts x),
       );
-      counted = λ count live.
-          let c : Searched = record { count = count; live = live } in
-          (answer-counted t i table marks accepts c, counted-answer t i table marks accepts c);
-      rows = λ count live. answer-rows t i table marks accepts (record { count = count; live = live });
+      counted = λ c. (answer-counted t i table marks accepts c, counted-answer t i table marks accepts c);
+      rows = answer-rows t i table marks accepts;
     }

@@ -131,13 +131,15 @@ pub fn show_solo(law: u64, t: &[u64], member: u8, plan: &[u16]) {
     }
 }
 
-fn show_found(count: usize, live: bool, table: &[u64], marks: &[u8]) {
+fn show_found(count: usize, live: bool, marked: usize, table: &[u64], marks: &[u8]) {
     number(count as u64);
     if live {
-        say(b" live;")
+        say(b" live,")
     } else {
-        say(b" dead;")
+        say(b" dead,")
     }
+    number(marked as u64);
+    say(b" marked;");
     words(table);
     say(b" marks");
     bytes(marks);
@@ -151,7 +153,7 @@ pub fn show_search(law: u64, t: &[u64], member: u8, table: &mut [u64], marks: &m
     let r = solo_search::solo_search(t, member, table, marks);
     match r {
         SearchAnswer::Refused(k) => refused(k),
-        SearchAnswer::Gives(count, live) => show_found(count, live, table, marks),
+        SearchAnswer::Gives(count, live, marked) => show_found(count, live, marked, table, marks),
     }
 }
 

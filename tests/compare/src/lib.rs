@@ -13,3 +13,4 @@ pub mod coverage;
 pub mod driver;
 pub mod lent;
 pub mod operations;
+pub mod proved;

@@ -6,13 +6,11 @@
 //! wrong.
 #![forbid(unsafe_code)]
 
-mod proved;
-
 use compare::coverage;
 use compare::driver::{one, run, Options, Summary};
 use compare::driver::{one_pddl, run_pddl};
 use compare::operations::{pddl, sizes};
-use proved::Proved;
+use compare::proved::Proved;
 use std::process::ExitCode;
 use std::time::Instant;
 use std::{env, thread};

@@ -4,7 +4,7 @@
 mod listed;
 
 use compare::driver::{run, Options};
-use reference::fast::Fast;
+use reference::fast::{copies, Fast, Task, DEAD};
 use reference::interface::{out_length, Interface};
 use reference::wrong;
 
@@ -26,6 +26,25 @@ listed! {
         SearchNineUncleared,
         SearchFullTableRefused,
         SearchAllLive,
+        SearchTwoNumbersAsked,
+        SearchTwoNumbersGiven,
+        SearchMarkedOneShort,
+        SearchMarkedOneMore,
+        SearchMarkedRows,
+        SearchMarkedEntries,
+        SearchMarkedDead,
+        SearchMarkedAllWhereDead,
+        SearchMarkedGoals,
+        SearchMarkedBySteps,
+        SearchMarkedWithoutTheFirst,
+        SearchMarkedWithoutTheLast,
+        SearchMarkedUpToTheFirstDead,
+        SearchMarkedWithWhatWasLent,
+        SearchMarkedExchanged,
+        SearchMarkedAsLive,
+        SearchLastSweepLost,
+        SearchLastSweepUncounted,
+        SearchOneSweep,
         JointCountsTheCollision,
         JointAlwaysOpen,
         JointPicksAfterTheEndTaken,
@@ -66,6 +85,67 @@ impl Broken {
             _ => {}
         }
         refusal
+    }
+
+    /// Tells another number of marks, or loses those of a sweep. `lent` are the marks at entry,
+    /// `kept` is what stood in the number's place.
+    fn miscount(
+        self,
+        task: &[u64],
+        member: u8,
+        marks: &mut [u8],
+        lent: &[u8],
+        kept: Option<u64>,
+        out: &mut [u64],
+    ) {
+        let (rows, marked) = (out[0], out[2]);
+        let task = Task::check(task).expect("it was accepted");
+        let distance = || {
+            let found = copies(&task, member as usize, rows as usize);
+            found.expect("so many were listed").distance
+        };
+        // How many rows are at most so many steps from the goal.
+        let near = |most: u32| distance().into_iter().filter(|&steps| steps <= most).count() as u64;
+        // One step less than the farthest rows are.
+        let nearer = || {
+            let farthest = distance().into_iter().filter(|&steps| steps != DEAD).max();
+            farthest.unwrap_or(0).max(1) - 1
+        };
+        // Leaves the marks of so many sweeps alone.
+        let mut sweeps = |most: u32| {
+            for (mark, steps) in marks.iter_mut().zip(distance()) {
+                *mark &= u8::from(steps <= most);
+            }
+            near(most)
+        };
+        out[2] = match self {
+            SearchTwoNumbersGiven => kept.expect("the number has a place"),
+            SearchMarkedOneShort => marked.saturating_sub(1),
+            SearchMarkedOneMore => marked + 1,
+            SearchMarkedRows => rows,
+            SearchMarkedEntries => lent.len() as u64,
+            SearchMarkedDead => rows - marked,
+            SearchMarkedAllWhereDead if out[1] == 0 => rows,
+            SearchMarkedGoals => near(0),
+            SearchMarkedBySteps => marked - near(0),
+            SearchMarkedWithoutTheFirst => marked - out[1],
+            SearchMarkedWithoutTheLast => marked - u64::from(marks[rows as usize - 1]),
+            SearchMarkedUpToTheFirstDead => {
+                marks.iter().take_while(|&&mark| mark == 1).count() as u64
+            }
+            SearchMarkedWithWhatWasLent => {
+                let left = lent[rows as usize..].iter().filter(|&&mark| mark != 0);
+                marked + left.count() as u64
+            }
+            SearchMarkedAsLive => out[1],
+            SearchLastSweepLost => sweeps(nearer()),
+            SearchLastSweepUncounted => near(nearer()),
+            SearchOneSweep => sweeps(1),
+            _ => marked,
+        };
+        if self == SearchMarkedExchanged {
+            out.swap(0, 2);
+        }
     }
 }
 
@@ -121,7 +201,19 @@ impl Interface for Broken {
         out: &mut [u64],
     ) -> u64 {
         let (last, first) = (marks.last().copied(), table.first().copied());
+        let (lent, kept) = (marks.to_vec(), out.get(2).copied());
+        if *self == SearchTwoNumbersAsked && out.len() == 2 {
+            let mut three = [0; out_length::SOLO_SEARCH];
+            let refusal = Fast.solo_search(task, member, table, marks, &mut three);
+            if refusal == 0 {
+                out.copy_from_slice(&three[..2]);
+            }
+            return refusal;
+        }
         let refusal = Fast.solo_search(task, member, table, marks, out);
+        if refusal == 0 {
+            self.miscount(task, member, marks, &lent, kept, out);
+        }
         match (self, refusal) {
             (SearchMarksUncleared, 0) if marks.len() > table.len() => {
                 *marks.last_mut().expect("longer than the table") = last.unwrap_or(0);

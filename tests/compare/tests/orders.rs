@@ -22,6 +22,7 @@ listed! {
         FactThenAction,
         EntryThenMember,
         OthersThenAction,
+        TaskThenSearchOut,
         MarksThenMember,
         FullThenMarks,
         EntryThenEnds,
@@ -130,10 +131,11 @@ impl Interface for Exchanged {
     ) -> u64 {
         let lengths = (table.len(), marks.len());
         match (self, Fast.solo_search(task, member, table, marks, out)) {
+            (TaskThenSearchOut, 14) if out.len() < 3 && Fast.task(task) != 0 => Fast.task(task),
             (MarksThenMember, 8) if lengths.1 < lengths.0 => 14,
             (FullThenMarks, 14) if lengths.1 < lengths.0 => {
                 let (mut room, mut live) = (vec![0; lengths.0], vec![0; lengths.0]);
-                match Fast.solo_search(task, member, &mut room, &mut live, &mut [0; 2]) {
+                match Fast.solo_search(task, member, &mut room, &mut live, &mut [0; 3]) {
                     9 => 9,
                     _ => 14,
                 }
@@ -249,7 +251,7 @@ impl Interface for Exchanged {
         }
         let members = task[1] as usize;
         let alone = |member: usize, rows: usize| {
-            let (mut table, mut marks, mut out) = (vec![0; rows], vec![0; rows], [0; 2]);
+            let (mut table, mut marks, mut out) = (vec![0; rows], vec![0; rows], [0; 3]);
             let refusal = Fast.solo_search(task, member as u8, &mut table, &mut marks, &mut out);
             (refusal, out[1])
         };

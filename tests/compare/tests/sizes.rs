@@ -32,6 +32,7 @@ listed! {
         SearchRows,
         SearchTable,
         SearchMarks,
+        SearchMarked,
         SearchDistance,
         SearchCleared,
         SearchFull,
@@ -104,11 +105,10 @@ impl Quantity {
             VerdictCollision | VerdictDeadlock | VerdictPlan | VerdictEntries | VerdictPick
             | VerdictMove | VerdictRest => 1024,
             VerdictMissed => 2048,
-            SearchRows | SearchTable | SearchMarks | SearchDistance | SearchCleared
-            | SearchFull | VerdictCopies | VerdictMarks | VerdictOffset | VerdictRows
-            | VerdictRobust | VerdictCleared | VerdictPicksCleared | VerdictFull | ReadCleared => {
-                4096
-            }
+            SearchRows | SearchTable | SearchMarks | SearchMarked | SearchDistance
+            | SearchCleared | SearchFull | VerdictCopies | VerdictMarks | VerdictOffset
+            | VerdictRows | VerdictRobust | VerdictCleared | VerdictPicksCleared | VerdictFull
+            | ReadCleared => 4096,
             ReadBytes => 16_384,
             SoloSteps | SoloBreak | SoloBadEntry | JointPicks | JointSuccess | JointCollision
             | JointDeadlock | JointMissed | JointOpen | JointEntries | JointPlan
@@ -300,6 +300,9 @@ impl Interface for Twin {
                 if self.at(SearchDistance, *distance as usize) {
                     marks[row] = 0;
                 }
+            }
+            if self.at(SearchMarked, out[2] as usize) {
+                out[2] -= 1;
             }
             if self.at(SearchRows, count) {
                 out[0] -= 1;

@@ -84,11 +84,18 @@ fn steps_and_plans() {
     let (mut table, mut marks) = ([9; 5], [9; 5]);
     assert_eq!(
         solo_search(&l1, 0, &mut table, &mut marks),
-        Ok(SoloSearch { copies: 4, live: true })
+        Ok(SoloSearch { copies: 4, live: true, marked: 4 })
     );
     assert_eq!((table, marks), ([1, 2, 5, 6, 0], [1, 1, 1, 1, 0]));
-    let found = solo_search(&laws::l4(), 1, &mut table, &mut marks);
-    assert_eq!(found.map(|found| found.live), Ok(false));
+    let none = SoloSearch { copies: 4, live: false, marked: 0 };
+    assert_eq!(solo_search(&laws::l4(), 1, &mut table, &mut marks), Ok(none));
+    assert_eq!((table, marks), ([1, 8, 17, 24, 0], [0; 5]));
+    let one = SoloSearch { copies: 2, live: true, marked: 1 };
+    assert_eq!(solo_search(&laws::l8(), 0, &mut table, &mut marks), Ok(one));
+    assert_eq!((table, marks), ([1, 2, 0, 0, 0], [1, 0, 0, 0, 0]));
+    let mut out = [9; raw::SOLO_SEARCH_OUT - 1];
+    assert_eq!(raw::solo_search(&[], 0, &mut table, &mut marks, &mut out), raw::SHORT);
+    assert_eq!(out, [9; 2]);
 }
 
 #[test]

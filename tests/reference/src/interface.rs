@@ -7,7 +7,7 @@ pub const TOO_SHORT: u64 = 14;
 pub mod out_length {
     pub const STEP: usize = 2;
     pub const SOLO_REPLAY: usize = 2;
-    pub const SOLO_SEARCH: usize = 2;
+    pub const SOLO_SEARCH: usize = 3;
     pub const JOINT_REPLAY: usize = 4;
     pub const PICK: usize = 1;
     pub const VERDICT: usize = 3;

@@ -1,12 +1,11 @@
 -- `capi::lawcheck_solo_search` meets its contract. Assumes nothing.
-use Rattle.capi.proofs.Calls.{search-short, search-refused, search-given}
 use borrow.Author.Needs.{needs}
+use Rattle.capi.proofs.Calls.{search-short, search-refused, search-given}
 use Rattle.capi.proofs.lawcheck_solo_search.Statement.{statement}
 use Rattle.capi.proofs.lawcheck_solo_search.Tie as tie
 
 returns : tie.Need-returns
-returns c =
-    let s : tie.Start = search in
+returns c = let s : tie.Start = search in
     let a = s .args in
     search-short (a .t .now) (a .table .now) (a .marks .now) (a .out .now) (a .member) (c .if1 .taken)
 
@@ -19,8 +18,8 @@ enum-known-s c = search needs
 enum-known-s-2 : tie.Need-enum-known-s-2
 enum-known-s-2 c = search needs
 
-cast-t19 : tie.Need-cast-t19
-cast-t19 c = search needs
+cast-t20 : tie.Need-cast-t20
+cast-t20 c = search needs
 
 slice-aggregate-put : tie.Need-slice-aggregate-put
 slice-aggregate-put c = search needs
@@ -35,8 +34,7 @@ same-length-2 : tie.Need-same-length-2
 same-length-2 c = search needs
 
 returns-2 : tie.Need-returns-2
-returns-2 c =
-    let f : tie.After-solo-search = search in
+returns-2 c = let f : tie.After-solo-search = search in
     let e : tie.Else1 = search in
     let s : tie.Start = search in
     let a = s .args in
@@ -54,8 +52,7 @@ same-length-5 : tie.Need-same-length-5
 same-length-5 c = search needs
 
 returns-3 : tie.Need-returns-3
-returns-3 c =
-    let s2 : tie.After-s2 = search in
+returns-3 c = let s2 : tie.After-s2 = search in
     let f : tie.After-solo-search = search in
     let e : tie.Else1 = search in
     let s : tie.Start = search in
@@ -63,7 +60,8 @@ returns-3 c =
     let m = s2 .s2 in
     search-given (a .t .now) (a .table .now) (a .marks .now) (a .out .now) (a .member) (e .if1 .left)
     (f .solo-search .result) (f .solo-search .last .1 .1 .0) (f .solo-search .last .1 .1 .1 .0)
-    (f .solo-search .ensures) (m .given .0 .0) (m .given .0 .1 .0) (c .before .before .put .last .0) (m .given .1)
+    (f .solo-search .ensures) (m .given .0 .0) (m .given .0 .1 .0) (m .given .0 .1 .1 .0)
+    (c .before .before .put .last .0) (m .given .1)
     (c .before .before .put .ensures)
 
 pub lawcheck-solo-search-spec : {M : Type 1} → statement M
@@ -74,7 +72,7 @@ lawcheck-solo-search-spec =
     solo-search-requires
     enum-known-s
     enum-known-s-2
-    cast-t19
+    cast-t20
     slice-aggregate-put
     put-requires
     same-length

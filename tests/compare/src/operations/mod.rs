@@ -5,7 +5,7 @@ pub mod pddl;
 mod read;
 mod run;
 pub mod sizes;
-mod solo;
+pub mod solo;
 mod step;
 pub mod verdict;
 

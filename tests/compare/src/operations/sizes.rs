@@ -6,8 +6,9 @@ use crate::case::Checked;
 use reference::generate::families::counters;
 use reference::generate::plans::Bundle;
 use reference::generate::sizes::{
-    amid, beside, digits, doubled, fault_after, fault_before, last_action, last_fact,
-    last_unsolvable, odometer, odometer_past, padded, records, scattered, sizes, Fault, Turns,
+    amid, beside, digits, doubled, fault_after, fault_before, forest, last_action, last_fact,
+    last_unsolvable, odometer, odometer_past, padded, records, scattered, sizes, tree, winder,
+    zigzag, Back, Fault, Tree, Turns, Wants,
 };
 use reference::generate::{contents, shuffle, text, Law};
 use reference::interface::Interface;
@@ -24,6 +25,8 @@ const STEPS: usize = 65_537;
 const ROWS: usize = 4097;
 const MISSED: usize = 2049;
 const PICKS: usize = 1025;
+/// Rows that become live one by one against their order, and those of each member of a forest.
+const SLOW: usize = 1025;
 const FACTS: usize = 64;
 const MEMBERS: usize = 8;
 const ACTIONS: usize = 256;
@@ -52,6 +55,9 @@ enum Made {
     SearchRows,
     SearchDead,
     SearchBush,
+    SearchTree,
+    SearchBack,
+    SearchZigzag,
     SearchFull,
     SearchSlack,
     JointMissedMember,
@@ -78,6 +84,7 @@ enum Made {
     VerdictConflictActions,
     VerdictRows,
     VerdictBush,
+    VerdictForest,
     VerdictFull,
     VerdictSlack,
     VerdictFault(Fault),
@@ -92,8 +99,9 @@ enum Made {
 }
 use Made::*;
 
-/// Everything that a case is made for, with the largest size.
-const MADE: [(Made, usize); 62] = [
+/// Everything that a case is made for, with the largest size. What is new comes last, so that the
+/// other cases keep their numbers.
+const MADE: [(Made, usize); 66] = [
     (TaskFacts, FACTS),
     (TaskFactAbove, FACTS - 1),
     (TaskMembers, MEMBERS),
@@ -156,6 +164,10 @@ const MADE: [(Made, usize); 62] = [
     (ReadBadRecord, RECORDS),
     (ReadDigits, DIGITS),
     (ReadSlack, ROWS),
+    (SearchTree, ROWS),
+    (SearchBack, SLOW),
+    (SearchZigzag, SLOW / 2 + 1),
+    (VerdictForest, SLOW),
 ];
 
 /// Every case that is made for a size, in turn.
@@ -264,6 +276,18 @@ impl Made {
                 let law = counters(1, size.ilog2() as usize);
                 search(random, checked, law, size)
             }
+            SearchTree => {
+                let (wants, back) = (wants(random, size), back(random));
+                search(random, checked, tree(size, wants, back), size)
+            }
+            SearchBack => {
+                let mut law = winder(size);
+                if random.chance(50) {
+                    law.goals = odometer_past(size, random.below(size)).goals;
+                }
+                search(random, checked, law, size)
+            }
+            SearchZigzag => search(random, checked, zigzag(size), 2 * size),
             SearchFull => solo::search_in(random, checked, odometer(size + 1).words(), 0, size),
             SearchSlack => {
                 let law = counters(1, random.between(1, 4));
@@ -326,6 +350,15 @@ impl Made {
                 let split = (0..members).map(|member| (facts + member) / members);
                 let laws: Vec<Law> = split.map(|facts| counters(1, facts)).collect();
                 judged(random, checked, beside(&laws), [size, size])
+            }
+            // One member moves at most, so there are no more configurations than it has rows.
+            VerdictForest => {
+                let members = random.between(2, MEMBERS);
+                let mut trees =
+                    vec![Tree { rows: size, wants: Wants::First, back: Back::Never }; members];
+                let one = &mut trees[random.below(members)];
+                (one.wants, one.back) = (wants(random, size), back(random));
+                judged(random, checked, forest(&trees), [size, size])
             }
             VerdictFull => {
                 let words = odometer(size + 1).words();
@@ -488,6 +521,16 @@ impl Made {
         let answers = contents(random, picks.len() + free);
         run::play_on(checked, turns.law.words(), bundle(plans), run, picks, answers)
     }
+}
+
+/// What a member of a tree of so many rows wants: mostly a row.
+fn wants(random: &mut Random, rows: usize) -> Wants {
+    let any = Wants::Row(random.below(rows));
+    random.one_of(&[any, any, Wants::Row(rows - 1), Wants::First, Wants::Never])
+}
+
+fn back(random: &mut Random) -> Back {
+    random.one_of(&[Back::Never, Back::FromEnds, Back::Anywhere])
 }
 
 /// An entry that is no action, or another member's.

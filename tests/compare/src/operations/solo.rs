@@ -84,10 +84,30 @@ pub fn search_in(
     rows: usize,
 ) -> Checked {
     let marked = length_near(random, rows);
-    let table: Vec<u64> = contents(random, rows);
-    let marks: Vec<u8> = contents(random, marked);
-    let out = random_out(random, out_length::SOLO_SEARCH);
+    let entry = Slices {
+        table: contents(random, rows),
+        marks: contents(random, marked),
+        out: random_out(random, out_length::SOLO_SEARCH),
+    };
+    search_with(checked, words, member, entry)
+}
 
+/// The slices lent to solo search, as they are at entry.
+pub struct Slices {
+    pub table: Vec<u64>,
+    pub marks: Vec<u8>,
+    pub out: Vec<u64>,
+}
+
+/// The solo search of this member with these slices. The class tells an answer by its marks: 0 none
+/// is 1, 1 all are, 2 some.
+pub fn search_with(
+    checked: &impl Interface,
+    words: Vec<u64>,
+    member: u8,
+    entry: Slices,
+) -> Checked {
+    let Slices { table, marks, out } = entry;
     let (mut expected_table, mut expected_marks) = (table.clone(), marks.clone());
     let mut expected_out = out.clone();
     let expected = paper::solo_search(
@@ -110,7 +130,11 @@ pub fn search_in(
     comparison.answer((expected, &expected_out), found, &found_out);
     comparison.slice("table", &expected_table, &found_table);
     comparison.slice("marks", &expected_marks, &found_marks);
-    let answer = expected_out.get(1).copied().unwrap_or(0);
+    let answer = match expected_out[..] {
+        [_, _, 0, ..] => 0,
+        [rows, _, marked, ..] if rows == marked => 1,
+        _ => 2,
+    };
     comparison.close(class(expected, answer), || {
         let others = vec![
             ("member", member.to_string()),

@@ -32,7 +32,7 @@ pub struct Slices {
     plans: Vec<u16>,
     ends: Vec<u64>,
     picks: Vec<u8>,
-    out: Vec<u64>,
+    pub out: Vec<u64>,
 }
 
 /// The same slices as they are lent.
@@ -94,7 +94,8 @@ pub fn enough(random: &mut Random, words: &[u64], most: [usize; 2]) -> Slices {
     room(random, members, rows)
 }
 
-/// Slices for just so many rows, of copies of each member and of configurations.
+/// Slices for just so many rows, of copies of each member and of configurations, the others at
+/// least as long as asked.
 pub fn room(random: &mut Random, members: usize, rows: [usize; 2]) -> Slices {
     slices_for(random, members, rows, |random, asked| asked + random.one_of(&[0, 0, 1, 4]))
 }

@@ -116,9 +116,19 @@ impl Task {
 /// The fast twin behind the C interface's operations.
 pub struct Fast;
 
-/// The fast twin by its verdict: the other operations are the same for all.
+/// The fast twin by its verdict and its solo search: the other operations are the same for all.
 pub trait Twin: Sync {
     fn judge(&self, task: &[u64], lent: &mut verdict::Lent) -> Result<[u64; 3], u64>;
+
+    fn search(
+        &self,
+        task: &[u64],
+        member: u8,
+        table: &mut [u64],
+        marks: &mut [u8],
+    ) -> Result<[u64; 3], u64> {
+        solo::search(task, member, table, marks)
+    }
 }
 
 impl Twin for Fast {
@@ -164,7 +174,7 @@ impl<T: Twin> Interface for T {
         if out.len() < out_length::SOLO_SEARCH {
             return TOO_SHORT;
         }
-        given(out, solo::search(task, member, table, marks))
+        given(out, self.search(task, member, table, marks))
     }
 
     fn joint_replay(

@@ -1,7 +1,8 @@
 //! Laws made for a size: as many facts, members, actions, copies, configurations, steps or picks as
 //! asked.
 
-use super::{shuffle, some, Law};
+use super::{all, shuffle, some, Law};
+use crate::fast::{copies, Task};
 use crate::random::Random;
 use std::collections::BTreeSet;
 
@@ -245,6 +246,163 @@ pub fn odometer_past(rows: usize, goal: usize) -> Law {
         (state & !del) | add
     });
     law
+}
+
+/// The odometer that counts down as well, not below its first row: each row leads to the one before
+/// it and to the one after it. The goal is the first, so rows become live in their order, each by
+/// the one before.
+pub fn winder(rows: usize) -> Law {
+    let mut law = odometer(rows);
+    let bits = law.facts / 2;
+    let first = (1 << bits) - rows;
+    for bit in 0..bits {
+        let [_, _, _, up, down] = law.actions[bit];
+        if first.trailing_zeros() as usize == bit {
+            // From every row but the first: a higher bit is another one than there.
+            for higher in bit + 1..bits {
+                let other = 1 << (2 * higher + 1 - (first >> higher & 1));
+                law.actions.push([0, up | other, 0, down, up]);
+            }
+        } else {
+            law.actions.push([0, up, 0, down, up]);
+        }
+    }
+    law.goals = vec![law.initial];
+    law
+}
+
+/// The winder with two rows for each count, 2k and 2k + 1: row 2k leads to 2k + 1 and 2k + 2, and
+/// row 2k + 1 back to 2k - 2. The goal is row 1, so rows become live two by two: the later of a
+/// pair by the pair before, then the earlier one by it.
+pub fn zigzag(counts: usize) -> Law {
+    let Law { facts, initial, actions: counting, .. } = winder(counts);
+    let [even, odd] = [1 << facts, 2 << facts];
+    let (bits, mut actions) = (facts / 2, vec![[0, even, 0, odd, even]]);
+    for (number, [member, pre, wait, add, del]) in counting.into_iter().enumerate() {
+        actions.push(if number < bits {
+            [member, pre | even, wait, add, del]
+        } else {
+            [member, pre | odd, wait, add | even, del | odd]
+        });
+    }
+    Law { facts: facts + 2, initial: initial | even, goals: vec![initial | odd], actions }
+}
+
+/// The copy of the only member of a law that stands in a row.
+fn copy_at(law: &Law, row: usize) -> u64 {
+    let task = Task::check(&law.words()).expect("a law");
+    copies(&task, 0, usize::MAX).expect("any number of rows").rows[row]
+}
+
+/// A law of one member whose last row leads on to the rows of another such law. The last row is the
+/// only one with all its facts.
+pub fn then(law: Law, next: Law) -> Law {
+    let last = copy_at(&law, rows_of(&law) - 1);
+    let mut joined = beside(&[law, next.clone()]);
+    let shift = joined.facts - next.facts;
+    joined.initial &= all(shift);
+    joined.goals.remove(0);
+    for action in &mut joined.actions {
+        action[0] = 0;
+    }
+    joined.actions.push([0, last, 0, next.initial << shift, last]);
+    joined
+}
+
+/// How many rows the only member of a law has.
+fn rows_of(law: &Law) -> usize {
+    let task = Task::check(&law.words()).expect("a law");
+    copies(&task, 0, usize::MAX).expect("any number of rows").rows.len()
+}
+
+/// What a member of a forest wants.
+#[derive(Clone, Copy, Debug, PartialEq)]
+pub enum Wants {
+    /// What holds before its first step alone: no row but the first is live.
+    First,
+    /// Its copy in this row alone.
+    Row(usize),
+    /// What it cannot reach.
+    Never,
+}
+
+/// From where a member of a forest can go back to its first row.
+#[derive(Clone, Copy, Debug, PartialEq)]
+pub enum Back {
+    Never,
+    /// From the rows past the full levels.
+    FromEnds,
+    Anywhere,
+}
+
+/// One member of a forest.
+#[derive(Clone, Copy, Debug)]
+pub struct Tree {
+    pub rows: usize,
+    pub wants: Wants,
+    pub back: Back,
+}
+
+impl Tree {
+    /// The levels below the first that are full.
+    fn depth(&self) -> usize {
+        (self.rows + 1).ilog2() as usize - 1
+    }
+}
+
+/// Members who each choose a bit at every level, 0 before 1, all over the same facts: a tree of
+/// just so many rows, few steps deep. Below its full levels there are ends: for each digit of the
+/// number of rows that are left, the leaves that begin with some ones have one. The last action of
+/// each member does nothing, so every row leads to itself too.
+pub fn forest(trees: &[Tree]) -> Law {
+    let depth = trees.iter().map(Tree::depth).max().unwrap_or(0);
+    let level = |number: usize| 1u64 << number;
+    let bit = |number: usize, one: usize| 1u64 << (depth + 1 + 2 * number + one);
+    let end = |digit: usize| 1u64 << (3 * depth + 1 + digit);
+    let [home, never] = [0, 1].map(|fact| 1u64 << (4 * depth + 2 + fact));
+    let facts = 4 * depth + 4;
+    let initial = level(0) | home;
+    let mut law = Law { facts, initial, goals: vec![home; trees.len()], actions: Vec::new() };
+    for (member, tree) in trees.iter().enumerate() {
+        let (number, own) = (member as u64, tree.depth());
+        // Who wants nothing else leaves home by its first step.
+        let left = if tree.wants == Wants::First { home } else { 0 };
+        let mut rows = Vec::new();
+        for at in 0..own {
+            let del = level(at) | if at == 0 { left } else { 0 };
+            rows.extend(
+                [0, 1].map(|one| [number, level(at), 0, level(at + 1) | bit(at, one), del]),
+            );
+        }
+        let rest = tree.rows + 1 - (2 << own);
+        for digit in (0..=own).filter(|digit| rest >> digit & 1 == 1) {
+            let ones: u64 = (0..own - digit).map(|at| bit(at, 1)).sum();
+            let del = level(own) | if own == 0 { left } else { 0 };
+            rows.push([number, level(own) | ones, 0, end(digit), del]);
+            if tree.back == Back::FromEnds {
+                rows.push([number, end(digit), 0, initial, all(facts)]);
+            }
+        }
+        if tree.back == Back::Anywhere {
+            rows.push([number, 0, 0, initial, all(facts)]);
+        }
+        rows.push([number, 0, 0, 0, 0]);
+        law.goals[member] = match tree.wants {
+            Wants::First => home,
+            Wants::Never => never,
+            Wants::Row(row) => {
+                let actions = rows.iter().map(|&[_, pre, wait, add, del]| [0, pre, wait, add, del]);
+                copy_at(&Law { goals: vec![0], actions: actions.collect(), ..law.clone() }, row)
+            }
+        };
+        law.actions.extend(rows);
+    }
+    law
+}
+
+/// A forest of one member.
+pub fn tree(rows: usize, wants: Wants, back: Back) -> Law {
+    forest(&[Tree { rows, wants, back }])
 }
 
 /// A law of so many records and 64 facts, with any masks of the first `used` of them.

@@ -2,7 +2,7 @@
 //! `out`. The verdict stands apart, with its many slices.
 
 use super::run::{self, Outcome, Pick, RUN};
-use super::solo::{self, Replay};
+use super::solo::{self, Found, Replay};
 use super::step::{self, Step};
 use super::verdict::Class;
 use super::{pddl, task, text};
@@ -71,7 +71,9 @@ pub fn solo_search(
     }
     match solo::search(words, member, table, marks) {
         Err(refusal) => refusal,
-        Ok((count, live)) => give(out, &[count as u64, if live { 1 } else { 0 }]),
+        Ok(Found { rows, live, marked }) => {
+            give(out, &[rows as u64, if live { 1 } else { 0 }, marked as u64])
+        }
     }
 }
 
