@@ -2,13 +2,13 @@
 use mathlib.Core.Path.{_≡_, refl, sym, ap, subst, _∙_}
 use mathlib.Core.Bool.{Bool, true, false, cond, true≢false, _&&_}
 use mathlib.Core.List.{List, [], map}
-use Prim.Native.Nat.{ℕ, zero, suc, _-_, _<_, max}
+use Prim.Native.Nat.{ℕ, _-_, _<_, max}
 use native.Mathlib.Omega.{arith}
-use lib.ListN.{length, getD, drop, replicate, length-map}
+use lib.ListN.{length, getD, drop, length-map}
 use lib.Seq.{ext-getD}
 use lib.Bits.{bitOr, or-zero-l, or-zero-r}
 use lib.Dec.{ltb}
-use Rattle.theory.proofs.Lists.{and-elim, upTo-length, getD-upTo}
+use Rattle.theory.proofs.Lists.{and-elim, upTo-length, getD-upTo, getD-zeros}
 use Rattle.theory.proofs.Loops.{Rest, rest-begin}
 use Rattle.semantics.specs.Base.{upTo, zeroed}
 use Rattle.semantics.specs.Text.{textWords}
@@ -48,14 +48,9 @@ begin waits table z = record {
   known = λ m F. refl;
   each = λ _ b.
       ap (λ (x : ℕ). bitOr x (waitMask b (textWords waits)))
-      (ap (λ (t : List ℕ). getD t b 0) z ∙ zeros (length table) b)
+      (ap (λ (t : List ℕ). getD t b 0) z ∙ getD-zeros (length table) b)
       ∙ or-zero-l (waitMask b (textWords waits));
 }
-  where
-    zeros : (n b : ℕ) → _≡_ {A = ℕ} (getD (replicate n 0) b 0) 0
-    zeros zero b = refl
-    zeros (suc n) zero = refl
-    zeros (suc n) (suc b) = zeros n b
 
 module _ {waits table₀ table : List ℕ} {some : Bool} {action fact i : ℕ}
     (s : Before waits table₀ table some action fact i) (r : Wait) (means : waitMeans waits i r) where

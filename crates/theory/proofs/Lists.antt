@@ -5,10 +5,10 @@ use mathlib.Core.Logic.{_⊎_, inl, inr, ⊎-elim}
 use mathlib.Core.List.{List, [], _∷_, _++_, map, flatten}
 use mathlib.Core.List.{List·Memᴰ, List·Memᴰ·head, List·Memᴰ·tail, List·Memᴰ·not-nil, List·Memᴰ·cases-cons, Memᴰ·cast}
 use mathlib.Core.List.{Memᴰ·append-left, Memᴰ·append-right}
-use Prim.Native.Nat.{ℕ, zero, suc, _+_, _≤_, _<_}
+use Prim.Native.Nat.{ℕ, zero, suc, _+_, _-_, _≤_, _<_}
 use native.Mathlib.Nat.{not-suc-le-zero, le-of-suc-le-suc}
 use native.Mathlib.Omega.{arith}
-use lib.ListN.{length, getD}
+use lib.ListN.{length, getD, take, drop, replicate}
 use lib.Dec.{eqb, ltb}
 use borrow.Author.Tests.{eqb-true, eqb-false, ltb-true, ltb-false, lt-ltb}
 use Rattle.semantics.specs.Base.{numbersFrom, upTo, anyOf, allOf, collect, keep}
@@ -267,3 +267,18 @@ pub map-same : {A B : Type 0} (f g : A → B) (xs : List A) → ((x : A) → Lis
 map-same f g [] h = refl
 map-same f g (x ∷ xs) h =
     rw (h x (List·Memᴰ·head refl), map-same f g xs (λ y m. h y (List·Memᴰ·tail m)))
+
+-- ---- parts of a list
+
+-- the entries from the first up to the last, as a slice of the code has them
+abbrev pub sliceOf : {A : Type 0} → ℕ → ℕ → List A → List A
+sliceOf first last xs = take (last - first) (drop first xs)
+
+pub slice-part : {A : Type 0} (at n : ℕ) (xs : List A) → sliceOf at (at + n) xs ≡ take n (drop at xs)
+slice-part at n xs = let e : at + n - at ≡ n = omega arith in rw e
+
+-- an entry of zeros
+pub getD-zeros : (n k : ℕ) → getD (replicate {A = ℕ} n 0) k 0 ≡ 0
+getD-zeros zero k = refl
+getD-zeros (suc n) zero = refl
+getD-zeros (suc n) (suc k) = getD-zeros n k
