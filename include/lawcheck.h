@@ -11,14 +11,15 @@
  * An answer's numbers are written, in the order stated, to the front of `out`; a number that an
  * answer does not have is written as 0, and the rest of `out` stays as it was. After a refusal all
  * of `out` stays as it was. An `out`, a run or a shared copy shorter than stated is refused with 14
- * before anything else.
+ * before anything else, and so is a run whose change number is above LAWCHECK_LAST_CHANGE.
  *
  * Terms. A fact is a number from 0 to F - 1. A mask is a word in which bit f stands for fact f. A
  * shared copy is the mask of the facts that hold for all; a local copy is what a member's own steps
  * alone have made of the initial mask I. An action answers wait, collision or go at a shared copy.
  * A plan of a member is a list of its actions; it solves if, from I, each precondition holds in the
  * local copy as it comes and the goal holds at the end. A run has one solving plan for each member,
- * and a pick does a member's next step.
+ * and a pick does a member's next step. A run's change number counts the picks done on it, those
+ * that go and the one that collides; a ticket is a member and a change number.
  *
  * A task is rows of five words:
  *   row 0           F (1 to 64), members n (1 to 8), actions m (0 to 256), I, 0
@@ -57,11 +58,13 @@ enum {
     LAWCHECK_ENDS = 11,        /* the ends, or a place past its plan's end */
     LAWCHECK_NO_SOLUTION = 12, /* a plan does not solve */
     LAWCHECK_PICK = 13,        /* no step left, waiting, or already collided */
-    LAWCHECK_SHORT = 14,       /* a lent slice is too short */
+    LAWCHECK_SHORT = 14,       /* a lent slice is too short, or a change number too large */
     LAWCHECK_TEXT = 15,        /* the text's form, or the waits' */
     LAWCHECK_PDDL = 16,        /* a text outside the subset of PDDL, or without a member */
     LAWCHECK_NAME = 17,        /* a name or number unknown, a name twice, or members that differ */
-    LAWCHECK_MANY = 18         /* more facts, members or actions than a task allows */
+    LAWCHECK_MANY = 18,        /* more facts, members or actions than a task allows */
+    LAWCHECK_STALE = 19,       /* the ticket's change number is not the run's */
+    LAWCHECK_CHANGES = 20      /* the run's change number is the last one */
 };
 
 /* Words of `out`, of a run, and of the reader's word slice; bytes that the writer's texts never
@@ -72,11 +75,13 @@ enum {
     LAWCHECK_SOLO_SEARCH_OUT = 3,
     LAWCHECK_JOINT_REPLAY_OUT = 4,
     LAWCHECK_PICK_OUT = 1,
+    LAWCHECK_ASK_OUT = 4,
+    LAWCHECK_COMMIT_OUT = 1,
     LAWCHECK_VERDICT_OUT = 3,
     LAWCHECK_READ_OUT = 1,
     LAWCHECK_PDDL_READ_OUT = 1,
     LAWCHECK_PDDL_WRITE_OUT = 2,
-    LAWCHECK_RUN_WORDS = 10,
+    LAWCHECK_RUN_WORDS = 11,
     LAWCHECK_TEXT_WORDS = 1325,
     LAWCHECK_PDDL_BYTES = 1048576
 };
@@ -96,8 +101,11 @@ enum {
     LAWCHECK_RUN_OPEN = 4
 };
 
-/* out[0] of lawcheck_pick. */
+/* out[0] of lawcheck_pick and of lawcheck_commit. */
 enum { LAWCHECK_PICK_GO = 0, LAWCHECK_PICK_COLLISION = 1 };
+
+/* out[0] of lawcheck_ask. */
+enum { LAWCHECK_ASK_GO = 0, LAWCHECK_ASK_WAIT = 1, LAWCHECK_ASK_COLLISION = 2 };
 
 /* out[0] of lawcheck_verdict. */
 enum {
@@ -109,7 +117,15 @@ enum {
 };
 
 /* Places in a run's words. */
-enum { LAWCHECK_RUN_COLLIDED = 0, LAWCHECK_RUN_PLACES = 1, LAWCHECK_RUN_SHARED = 9 };
+enum {
+    LAWCHECK_RUN_COLLIDED = 0,
+    LAWCHECK_RUN_PLACES = 1,
+    LAWCHECK_RUN_SHARED = 9,
+    LAWCHECK_RUN_CHANGE = 10
+};
+
+/* The last change number: a run that has it takes no further pick. */
+#define LAWCHECK_LAST_CHANGE UINT32_C(4294967295)
 
 /* The task check.
  *
@@ -168,20 +184,25 @@ uint64_t lawcheck_joint_replay(const uint64_t *task, size_t task_len,
 
 /* One pick on a run that the caller holds.
  *
- * run is ten words: collided where not 0, eight places (one for each member, in its plan; those of
- * members that the task does not have are not looked at), the shared copy. A run starts with 0,
- * places 0 and I. After go the member's place and the shared copy are moved on; after a collision
- * the first word is 1; nothing else of the run is written.
+ * run is eleven words: collided where not 0, eight places (one for each member, in its plan; those
+ * of members that the task does not have are not looked at), the shared copy, the change number. A
+ * run starts with 0, places 0, I and 0. After go the member's place and the shared copy are moved
+ * on; after a collision the first word is 1; after either the change number is one higher. Nothing
+ * else of the run changes.
+ *
+ * A runner that has to know the answer before it does the pick takes lawcheck_ask, and then
+ * lawcheck_commit. A pick in between makes every ticket asked for before it stale.
  *
  * Each pick looks at the task and at all plans anew, since it is handed them anew: its time grows
  * with task_len + plans_len, and a run of as many picks as there are steps takes the square of
- * that. Picks that are known beforehand are done by one lawcheck_play, or from the start by
- * lawcheck_joint_replay: both look at the plans once.
+ * that; so do asks and commits. Picks that are known beforehand are done by one lawcheck_play, or
+ * from the start by lawcheck_joint_replay: both look at the plans once.
  *
  * out: 0 go, 1 collision.
- * Refuses with 14 where run_len is below 10 or out_len below 1; as lawcheck_joint_replay up to 12;
- * 4 a bit of the shared copy at or above F; 11 a place past its plan's end; 8 no such member; 13
- * (no step left, waiting, or already collided).
+ * Refuses with 14 where run_len is below 11, the change number above LAWCHECK_LAST_CHANGE, or
+ * out_len below 1; as lawcheck_joint_replay up to 12; 4 a bit of the shared copy at or above F; 11
+ * a place past its plan's end; 8 no such member; 13 (no step left, waiting, or already collided);
+ * 20 where the change number is LAWCHECK_LAST_CHANGE.
  */
 uint64_t lawcheck_pick(const uint64_t *task, size_t task_len,
                        const uint16_t *plans, size_t plans_len,
@@ -189,23 +210,61 @@ uint64_t lawcheck_pick(const uint64_t *task, size_t task_len,
                        uint64_t *run, size_t run_len, uint8_t member,
                        uint64_t *out, size_t out_len);
 
-/* The start of a run: 0, places 0 and I, written to run's ten words.
+/* What a member's next step would answer on a run that the caller holds, and a ticket for it. The
+ * run is only read.
  *
- * Refuses with 14 where run_len is below 10; the task check.
+ * The ticket is the member and the run's change number. It is good for lawcheck_commit as long as
+ * the run keeps that number, so until the next pick or commit that is not refused. A step that
+ * waits gets a ticket too, and so does a run that has the last change number; a commit with either
+ * is refused.
+ *
+ * out: 0 go, 1 wait, 2 collision; the new shared copy after go; the ticket's member; the ticket's
+ * change number.
+ * Refuses with 14 where run_len is below 11, the change number above LAWCHECK_LAST_CHANGE, or
+ * out_len below 4; as lawcheck_joint_replay up to 12; 4 a bit of the shared copy at or above F; 11
+ * a place past its plan's end; 8 no such member; 13 (no step left, or already collided).
+ */
+uint64_t lawcheck_ask(const uint64_t *task, size_t task_len,
+                      const uint16_t *plans, size_t plans_len,
+                      const uint64_t *ends, size_t ends_len,
+                      const uint64_t *run, size_t run_len, uint8_t member,
+                      uint64_t *out, size_t out_len);
+
+/* The pick that a ticket is for, on a run that the caller holds. member and change are the ticket;
+ * one that nobody asked for is as good as any other where its change number is the run's.
+ *
+ * Where it is not refused, the answer is what lawcheck_ask gives for the member on this run, and
+ * the run is left as lawcheck_pick leaves it. Asks and refused commits leave no trace: without them
+ * the other calls on the run answer the same and leave it the same.
+ *
+ * out: 0 go, 1 collision.
+ * Refuses as lawcheck_pick; between its 8 and its 13 also with 19, where change is not the run's
+ * change number.
+ */
+uint64_t lawcheck_commit(const uint64_t *task, size_t task_len,
+                         const uint16_t *plans, size_t plans_len,
+                         const uint64_t *ends, size_t ends_len,
+                         uint64_t *run, size_t run_len, uint8_t member, uint32_t change,
+                         uint64_t *out, size_t out_len);
+
+/* The start of a run: 0, places 0, I and change number 0, written to run's eleven words.
+ *
+ * Refuses with 14 where run_len is below 11, whatever the words hold; the task check.
  */
 uint64_t lawcheck_start(const uint64_t *task, size_t task_len, uint64_t *run, size_t run_len);
 
 /* A list of picks on a run that the caller holds, done in turn; the plans are looked at once, and
  * so are the run's words.
  *
- * Each pick meets the run as the last one left it. One that is not possible is passed over and
- * changes nothing.
+ * Each pick meets the run as the last one left it. One that is refused is passed over and changes
+ * nothing.
  * answers has a number for each pick: 0 go, 1 collision, or the refusal that lawcheck_pick has for
- * it there, 8 no such member or 13 (no step left, waiting, or already collided); the rest of it
- * stays as it was. Of the run afterwards the first word is 1 where it has collided, whatever was
- * there before, else 0.
- * Refuses with 14 where run_len is below 10 or answers_len below picks_len; as lawcheck_pick up to
- * 11, a place past its plan's end.
+ * it there, 8 no such member, 13 (no step left, waiting, or already collided) or 20 (the change
+ * number is LAWCHECK_LAST_CHANGE); the rest of it stays as it was. Of the run afterwards the first
+ * word is 1 where it has collided, whatever was there before, else 0, and the change number is
+ * higher by the picks that go or collide.
+ * Refuses with 14 where run_len is below 11, the change number above LAWCHECK_LAST_CHANGE, or
+ * answers_len below picks_len; as lawcheck_pick up to 11, a place past its plan's end.
  */
 uint64_t lawcheck_play(const uint64_t *task, size_t task_len,
                        const uint16_t *plans, size_t plans_len,

@@ -110,7 +110,9 @@ impl Bench {
         let steps = [256, 1024, 4096, 16_384];
         grows(steps.map(|steps| self.solo_replay(steps)));
         grows(steps.map(|steps| self.joint_replay(steps)));
-        grows(steps.map(|steps| self.pick(steps)));
+        grows(steps.map(|steps| self.pick("one pick", Slices::pick, steps)));
+        grows(steps.map(|steps| self.pick("one ask", Slices::ask, steps)));
+        grows(steps.map(|steps| self.pick("one commit", Slices::commit, steps)));
         grows([17, 33, 65, 129].map(|records| self.reader(records)));
 
         growth("Growth with actions");
@@ -215,12 +217,17 @@ impl Bench {
         self.measure("joint replay", "eight members in turn", law.actions.len(), run, rows)
     }
 
-    /// The rows are the plans' steps, all of which a pick looks at.
-    fn pick(&self, steps: usize) -> Measured {
+    /// A pick, an ask or a commit. The rows are the plans' steps, all of which it looks at.
+    fn pick(
+        &self,
+        name: &'static str,
+        call: fn(&mut Slices, &[u64], &[u16], &[u64]),
+        steps: usize,
+    ) -> Measured {
         let (law, plans, ends, _) = laws::long_run(steps);
         let words = law.words();
-        let run = |slices: &mut Slices| slices.pick(&words, &plans, &ends);
-        self.measure("one pick", "eight members in turn", law.actions.len(), run, |_| plans.len())
+        let run = |slices: &mut Slices| call(slices, &words, &plans, &ends);
+        self.measure(name, "eight members in turn", law.actions.len(), run, |_| plans.len())
     }
 
     /// One pick and the replay of all, both by the library.

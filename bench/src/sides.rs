@@ -1,8 +1,7 @@
 //! One operation on slices of its own: each side of a measurement holds one of these.
 
 use reference::fast::Fast;
-use reference::interface::Interface;
-use reference::interface::Pddl;
+use reference::interface::{Interface, Pddl, Ticket};
 
 /// Words of the verdict program's tables.
 const LOCAL: usize = 4096;
@@ -117,6 +116,28 @@ impl Slices {
         self.returned = match self.side {
             Side::Library => lawcheck::raw::pick(task, plans, ends, run, 0, out),
             Side::Twin => Fast.pick(task, plans, ends, run, 0, out),
+        };
+    }
+
+    /// An ask for member 0 on a run at its start.
+    pub fn ask(&mut self, task: &[u64], plans: &[u16], ends: &[u64]) {
+        self.run = [0; lawcheck::raw::RUN_WORDS];
+        self.run[lawcheck::raw::RUN_SHARED] = task[3];
+        let (run, out) = (&mut self.run, &mut self.out);
+        self.returned = match self.side {
+            Side::Library => lawcheck::raw::ask(task, plans, ends, run, 0, out),
+            Side::Twin => Fast.ask(task, plans, ends, run, 0, out),
+        };
+    }
+
+    /// The commit of what member 0 is told there.
+    pub fn commit(&mut self, task: &[u64], plans: &[u16], ends: &[u64]) {
+        self.run = [0; lawcheck::raw::RUN_WORDS];
+        self.run[lawcheck::raw::RUN_SHARED] = task[3];
+        let (run, out) = (&mut self.run, &mut self.out);
+        self.returned = match self.side {
+            Side::Library => lawcheck::raw::commit(task, plans, ends, run, 0, 0, out),
+            Side::Twin => Fast.commit(task, plans, ends, run, Ticket { member: 0, change: 0 }, out),
         };
     }
 

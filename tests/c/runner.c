@@ -1,5 +1,6 @@
-/* A settlement runner in small: it checks a law, holds one run, picks members in turn and
- * reports how the run ended. The last line is 'N passed, M failed'. */
+/* A settlement runner in small: it checks a law, holds one run, asks members what they would do,
+ * reserves a machine for each step that would go, commits the step, and reports how the run ended.
+ * The last line is 'N passed, M failed'. */
 
 #include <lawcheck.h>
 #include <stdbool.h>
@@ -34,7 +35,8 @@ static void expect(bool holds, const char *what)
     }
 }
 
-/* What the runner holds: the law, the plans, the run as it stands, and the picks so far. */
+/* What the runner holds: the law, the plans, the run as it stands, the picks so far, and how often
+ * it asked for a machine. */
 struct runner {
     const uint64_t *law;
     size_t law_len;
@@ -44,6 +46,14 @@ struct runner {
     uint64_t run[LAWCHECK_RUN_WORDS];
     uint8_t picks[MOST_PICKS];
     size_t picks_len;
+    unsigned requests, stale;
+};
+
+/* What a member would do, and the ticket for it. */
+struct asked {
+    uint64_t answer, shared;
+    uint8_t member;
+    uint32_t change;
 };
 
 static void start(struct runner *runner, const uint64_t *law, size_t law_len, const uint16_t *plans,
@@ -55,7 +65,18 @@ static void start(struct runner *runner, const uint64_t *law, size_t law_len, co
     runner->plans = plans;
     runner->plans_len = plans_len;
     runner->ends = ends;
-    runner->run[LAWCHECK_RUN_SHARED] = law[3];
+    runner->run[LAWCHECK_RUN_CHANGE] = 99;
+    expect(lawcheck_start(law, law_len, runner->run, LAWCHECK_RUN_WORDS) == 0 &&
+               runner->run[LAWCHECK_RUN_SHARED] == law[3] &&
+               runner->run[LAWCHECK_RUN_CHANGE] == 0,
+           "a run starts at the initial copy with nothing done");
+}
+
+static void note(struct runner *runner, uint8_t member)
+{
+    if (runner->picks_len < MOST_PICKS) {
+        runner->picks[runner->picks_len++] = member;
+    }
 }
 
 /* One pick on the held run: the refusal's number, or 0 with the answer in *answer. */
@@ -67,27 +88,104 @@ static uint64_t pick(struct runner *runner, uint8_t member, uint64_t *answer)
                       MEMBERS, runner->run, LAWCHECK_RUN_WORDS, member, out, LAWCHECK_PICK_OUT);
     if (refusal == 0) {
         *answer = out[0];
-        if (runner->picks_len < MOST_PICKS) {
-            runner->picks[runner->picks_len++] = member;
-        }
+        note(runner, member);
     }
     return refusal;
 }
 
-/* Picks the members in turn until none can be picked. False where a pick is refused for another
- * reason. */
+/* Asks what a member would do: the refusal's number, or 0 with the answer and its ticket. */
+static uint64_t ask(const struct runner *runner, uint8_t member, struct asked *asked)
+{
+    uint64_t before[LAWCHECK_RUN_WORDS], out[LAWCHECK_ASK_OUT] = {99, 99, 99, 99};
+    memcpy(before, runner->run, sizeof before);
+    uint64_t refusal =
+        lawcheck_ask(runner->law, runner->law_len, runner->plans, runner->plans_len, runner->ends,
+                     MEMBERS, runner->run, LAWCHECK_RUN_WORDS, member, out, LAWCHECK_ASK_OUT);
+    expect(memcmp(before, runner->run, sizeof before) == 0, "an ask leaves the run as it was");
+    if (refusal == 0) {
+        expect(out[2] == member && out[3] == runner->run[LAWCHECK_RUN_CHANGE],
+               "a ticket is the member and the change number");
+        *asked = (struct asked){out[0], out[1], (uint8_t)out[2], (uint32_t)out[3]};
+    }
+    return refusal;
+}
+
+/* Commits what was asked: the refusal's number, or 0. */
+static uint64_t commit(struct runner *runner, const struct asked *asked)
+{
+    uint64_t before[LAWCHECK_RUN_WORDS], out[LAWCHECK_COMMIT_OUT] = {99};
+    memcpy(before, runner->run, sizeof before);
+    uint64_t refusal = lawcheck_commit(runner->law, runner->law_len, runner->plans,
+                                       runner->plans_len, runner->ends, MEMBERS, runner->run,
+                                       LAWCHECK_RUN_WORDS, asked->member, asked->change, out,
+                                       LAWCHECK_COMMIT_OUT);
+    if (refusal != 0) {
+        expect(memcmp(before, runner->run, sizeof before) == 0 && out[0] == 99,
+               "a refused commit changes nothing");
+        return refusal;
+    }
+    if (asked->answer == LAWCHECK_ASK_GO) {
+        expect(out[0] == LAWCHECK_PICK_GO && runner->run[LAWCHECK_RUN_SHARED] == asked->shared,
+               "it goes to the shared copy that was told");
+    } else {
+        expect(out[0] == LAWCHECK_PICK_COLLISION && asked->answer == LAWCHECK_ASK_COLLISION,
+               "it collides as was told");
+    }
+    expect(runner->run[LAWCHECK_RUN_CHANGE] == before[LAWCHECK_RUN_CHANGE] + 1,
+           "a commit is one change");
+    note(runner, asked->member);
+    return 0;
+}
+
+/* A machine for a step; every third request is refused. */
+static bool reserve(struct runner *runner)
+{
+    return ++runner->requests % 3 != 0;
+}
+
+/* Commits what was asked where a machine can be had. A ticket that has become stale is asked for
+ * again, and the machine is given back where the member would no longer go. *left tells whether the
+ * member has to come again. False where a call is refused for another reason. */
+static bool settle(struct runner *runner, struct asked *asked, bool *left)
+{
+    if (asked->answer == LAWCHECK_ASK_WAIT) {
+        return true;
+    }
+    *left = true;
+    if (!reserve(runner)) {
+        return true;
+    }
+    uint64_t refusal = commit(runner, asked);
+    if (refusal == LAWCHECK_STALE) {
+        runner->stale++;
+        refusal = ask(runner, asked->member, asked);
+        if (refusal == 0 && asked->answer != LAWCHECK_ASK_WAIT) {
+            refusal = commit(runner, asked);
+        }
+    }
+    return refusal == 0 || refusal == LAWCHECK_PICK;
+}
+
+/* Goes round the members until none of them would go: asks them all, then settles what each would
+ * do. False where a call is refused for another reason. */
 static bool finish(struct runner *runner)
 {
-    bool moved = true;
-    while (moved) {
-        moved = false;
+    bool left = true;
+    while (left) {
+        struct asked asked[MEMBERS];
+        bool open[MEMBERS];
+        left = false;
         for (uint8_t member = 0; member < MEMBERS; member++) {
-            uint64_t answer;
-            uint64_t refusal = pick(runner, member, &answer);
+            uint64_t refusal = ask(runner, member, &asked[member]);
             if (refusal != 0 && refusal != LAWCHECK_PICK) {
                 return false;
             }
-            moved = moved || refusal == 0;
+            open[member] = refusal == 0;
+        }
+        for (uint8_t member = 0; member < MEMBERS; member++) {
+            if (open[member] && !settle(runner, &asked[member], &left)) {
+                return false;
+            }
         }
     }
     return true;
@@ -179,21 +277,60 @@ static void run_to_success(void)
     static const uint64_t ends[MEMBERS] = {2, 4};
     uint64_t out[LAWCHECK_JOINT_REPLAY_OUT], answer;
     struct runner runner;
+    struct asked first, second;
     expect(verdict(LAW, out) == 0 && out[0] == LAWCHECK_ROBUST && out[2] == 12,
            "the law is robust with 12 configurations");
     start(&runner, LAW, WORDS, plans, 4, ends);
-    expect(pick(&runner, 1, &answer) == 0 && answer == LAWCHECK_PICK_GO, "member 1 goes first");
-    expect(runner.run[LAWCHECK_RUN_PLACES + 1] == 1 && runner.run[LAWCHECK_RUN_SHARED] == 8,
+    expect(ask(&runner, 0, &second) == 0 && second.answer == LAWCHECK_ASK_GO && second.shared == 2,
+           "member 0 would go");
+    expect(ask(&runner, 1, &first) == 0 && first.answer == LAWCHECK_ASK_GO && first.shared == 8,
+           "member 1 would go");
+    expect(commit(&runner, &first) == 0, "member 1 goes first");
+    expect(runner.run[LAWCHECK_RUN_PLACES + 1] == 1 && runner.run[LAWCHECK_RUN_SHARED] == 8 &&
+               runner.run[LAWCHECK_RUN_CHANGE] == 1,
            "the run moves on");
-    expect(pick(&runner, 0, &answer) == LAWCHECK_PICK, "member 0 waits");
+    expect(commit(&runner, &second) == LAWCHECK_STALE, "what member 0 was told is stale");
+    expect(commit(&runner, &first) == LAWCHECK_STALE, "a ticket is good for one commit");
+    expect(ask(&runner, 0, &second) == 0 && second.answer == LAWCHECK_ASK_WAIT &&
+               second.shared == 0 && second.change == 1,
+           "member 0 would wait now, and has a ticket");
+    expect(commit(&runner, &second) == LAWCHECK_PICK, "what waits is not committed");
+    expect(pick(&runner, 0, &answer) == LAWCHECK_PICK, "nor picked");
     expect(pick(&runner, MEMBERS, &answer) == LAWCHECK_MEMBER, "there is no third member");
+    expect(ask(&runner, MEMBERS, &first) == LAWCHECK_MEMBER, "it cannot be asked");
+    first = (struct asked){LAWCHECK_ASK_GO, 0, MEMBERS, 7};
+    expect(commit(&runner, &first) == LAWCHECK_MEMBER, "nor committed, by a stale ticket either");
     expect(finish(&runner), "the run finishes");
+    expect(runner.run[LAWCHECK_RUN_CHANGE] == 4, "four picks were done");
+    expect(ask(&runner, 0, &first) == LAWCHECK_PICK, "no step is left");
     expect(replay(&runner, out) == 0 && out[0] == LAWCHECK_RUN_SUCCESS && out[2] == 4 &&
                out[3] == runner.run[LAWCHECK_RUN_SHARED],
            "the replay is a success with the run's shared copy");
     expect(lawcheck_pick(LAW, WORDS, plans, 4, ends, MEMBERS, runner.run, LAWCHECK_RUN_WORDS - 1, 0,
                          out, 1) == LAWCHECK_SHORT,
-           "a run has ten words");
+           "a run has eleven words");
+}
+
+/* Members whose steps have nothing to do with each other: what one is told becomes stale by the
+ * other's commit, and machines are refused. */
+static void run_side_by_side(void)
+{
+    static const uint64_t law[] = {2, 2, 2, 0, 0, 0, 1, 0, 0, 0, 1, 2, 0, 0, 0,
+                                   0, 0, 0, 1, 0, 1, 0, 0, 2, 0};
+    static const uint16_t plans[] = {0, 0, 0, 1, 1, 1};
+    static const uint64_t ends[MEMBERS] = {3, 6};
+    uint64_t out[LAWCHECK_JOINT_REPLAY_OUT], answer;
+    struct runner runner;
+    struct asked asked;
+    start(&runner, law, 25, plans, 6, ends);
+    expect(ask(&runner, 0, &asked) == 0 && pick(&runner, 1, &answer) == 0 &&
+               commit(&runner, &asked) == LAWCHECK_STALE,
+           "a pick makes a ticket stale");
+    expect(ask(&runner, 0, &asked) == 0 && commit(&runner, &asked) == 0, "it is asked for again");
+    expect(finish(&runner) && runner.run[LAWCHECK_RUN_CHANGE] == 6, "all six steps are done");
+    expect(runner.stale > 0 && runner.requests > 4, "with stale tickets and refused machines");
+    expect(replay(&runner, out) == 0 && out[0] == LAWCHECK_RUN_SUCCESS && out[2] == 6,
+           "the replay is a success");
 }
 
 /* Without waiting the second member collides, and the run is closed. */
@@ -203,6 +340,7 @@ static void run_to_collision(void)
     static const uint64_t ends[MEMBERS] = {2, 4};
     uint64_t law[WORDS], out[LAWCHECK_JOINT_REPLAY_OUT], answer;
     struct runner runner;
+    struct asked asked;
     memcpy(law, LAW, sizeof law);
     for (int action = 0; action < ACTIONS; action++) {
         law[5 * (1 + MEMBERS + action) + 2] = 0;
@@ -216,12 +354,16 @@ static void run_to_collision(void)
            "its conflict replays");
     start(&runner, law, WORDS, plans, 4, ends);
     expect(pick(&runner, 0, &answer) == 0 && answer == LAWCHECK_PICK_GO, "member 0 goes");
-    expect(pick(&runner, 1, &answer) == 0 && answer == LAWCHECK_PICK_COLLISION,
-           "member 1 collides");
+    expect(ask(&runner, 1, &asked) == 0 && asked.answer == LAWCHECK_ASK_COLLISION &&
+               asked.shared == 0,
+           "member 1 would collide");
+    expect(commit(&runner, &asked) == 0, "member 1 collides");
     expect(runner.run[LAWCHECK_RUN_COLLIDED] == 1 && runner.run[LAWCHECK_RUN_PLACES + 1] == 0 &&
                runner.run[LAWCHECK_RUN_SHARED] == 2,
            "a collision changes neither copy nor place");
+    expect(runner.run[LAWCHECK_RUN_CHANGE] == 2, "but it counts");
     expect(pick(&runner, 0, &answer) == LAWCHECK_PICK, "the run is closed");
+    expect(ask(&runner, 0, &asked) == LAWCHECK_PICK, "nobody is told anything");
     expect(replay(&runner, out) == 0 && out[0] == LAWCHECK_RUN_COLLISION && out[2] == 1,
            "the replay collides after one pick");
 }
@@ -231,19 +373,63 @@ static void run_to_deadlock(void)
 {
     static const uint16_t plans[] = {0, 1, 0, 2, 3};
     static const uint64_t ends[MEMBERS] = {3, 5};
-    uint64_t law[WORDS], out[LAWCHECK_JOINT_REPLAY_OUT], answer;
+    uint64_t law[WORDS], out[LAWCHECK_JOINT_REPLAY_OUT];
     struct runner runner;
+    struct asked asked;
     memcpy(law, LAW, sizeof law);
     law[5 + 1] = 4;
     law[10 + 1] = 16;
     expect(verdict(law, out) == 0 && out[0] == LAWCHECK_DEADLOCK, "the law may deadlock");
     start(&runner, law, WORDS, plans, 5, ends);
     for (int count = 0; count < 3; count++) {
-        expect(pick(&runner, 0, &answer) == 0 && answer == LAWCHECK_PICK_GO, "member 0 goes on");
+        expect(ask(&runner, 0, &asked) == 0 && commit(&runner, &asked) == 0, "member 0 goes on");
     }
     expect(finish(&runner) && runner.picks_len == 3, "nobody can be picked");
+    expect(ask(&runner, 1, &asked) == 0 && asked.answer == LAWCHECK_ASK_WAIT, "member 1 waits");
     expect(replay(&runner, out) == 0 && out[0] == LAWCHECK_RUN_DEADLOCK && out[2] == 3,
            "the replay is a deadlock after three picks");
+}
+
+/* A run that has the last change number is asked, and takes no pick. */
+static void run_to_the_last_change(void)
+{
+    static const uint16_t plans[] = {0, 1, 2, 3};
+    static const uint64_t ends[MEMBERS] = {2, 4};
+    static const uint8_t picks[] = {0, 1, MEMBERS, 0};
+    uint64_t answers[4], out[LAWCHECK_ASK_OUT] = {99, 99, 99, 99}, answer;
+    struct runner runner;
+    struct asked asked;
+    start(&runner, LAW, WORDS, plans, 4, ends);
+    runner.run[LAWCHECK_RUN_CHANGE] = LAWCHECK_LAST_CHANGE - 1;
+    expect(ask(&runner, 0, &asked) == 0 && commit(&runner, &asked) == 0, "one change is left");
+    expect(runner.run[LAWCHECK_RUN_CHANGE] == LAWCHECK_LAST_CHANGE, "then none is");
+    expect(ask(&runner, 0, &asked) == 0 && asked.answer == LAWCHECK_ASK_GO && asked.shared == 5 &&
+               asked.change == LAWCHECK_LAST_CHANGE,
+           "member 0 is told that it would go");
+    expect(commit(&runner, &asked) == LAWCHECK_CHANGES, "it does not");
+    expect(pick(&runner, 0, &answer) == LAWCHECK_CHANGES, "nor by a pick");
+    expect(pick(&runner, 1, &answer) == LAWCHECK_PICK, "what waits is refused for that");
+    expect(lawcheck_play(LAW, WORDS, plans, 4, ends, MEMBERS, runner.run, LAWCHECK_RUN_WORDS, picks,
+                         4, answers, 4) == 0 &&
+               answers[0] == LAWCHECK_CHANGES && answers[1] == LAWCHECK_PICK &&
+               answers[2] == LAWCHECK_MEMBER && answers[3] == LAWCHECK_CHANGES,
+           "a list of picks is passed over");
+    expect(lawcheck_ask(LAW, WORDS, plans, 4, ends, MEMBERS, runner.run, LAWCHECK_RUN_WORDS, 0, out,
+                        LAWCHECK_ASK_OUT - 1) == LAWCHECK_SHORT &&
+               out[0] == 99,
+           "an ask tells four numbers");
+    runner.run[LAWCHECK_RUN_CHANGE]++;
+    expect(ask(&runner, 0, &asked) == LAWCHECK_SHORT && pick(&runner, 0, &answer) == LAWCHECK_SHORT,
+           "no run has a larger number");
+    asked.change = 0;
+    expect(commit(&runner, &asked) == LAWCHECK_SHORT, "it is not cut to 32 bits");
+    expect(lawcheck_play(LAW, WORDS, plans, 4, ends, MEMBERS, runner.run, LAWCHECK_RUN_WORDS, picks,
+                         4, answers, 4) == LAWCHECK_SHORT,
+           "a list of picks is refused too");
+    expect(lawcheck_start(LAW, WORDS, runner.run, LAWCHECK_RUN_WORDS - 1) == LAWCHECK_SHORT &&
+               lawcheck_start(LAW, WORDS, runner.run, LAWCHECK_RUN_WORDS) == 0 &&
+               runner.run[LAWCHECK_RUN_CHANGE] == 0,
+           "a start needs eleven words, whatever they hold");
 }
 
 int main(void)
@@ -251,8 +437,10 @@ int main(void)
     read_the_law();
     single_operations();
     run_to_success();
+    run_side_by_side();
     run_to_collision();
     run_to_deadlock();
+    run_to_the_last_change();
     printf("%u passed, %u failed\n", passed, failed);
     return failed == 0 ? 0 : 1;
 }

@@ -62,6 +62,35 @@ extern "C" {
         out_len: usize,
     ) -> u64;
 
+    pub fn lawcheck_ask(
+        task: *const u64,
+        task_len: usize,
+        plans: *const u16,
+        plans_len: usize,
+        ends: *const u64,
+        ends_len: usize,
+        run: *const u64,
+        run_len: usize,
+        member: u8,
+        out: *mut u64,
+        out_len: usize,
+    ) -> u64;
+
+    pub fn lawcheck_commit(
+        task: *const u64,
+        task_len: usize,
+        plans: *const u16,
+        plans_len: usize,
+        ends: *const u64,
+        ends_len: usize,
+        run: *mut u64,
+        run_len: usize,
+        member: u8,
+        change: u32,
+        out: *mut u64,
+        out_len: usize,
+    ) -> u64;
+
     pub fn lawcheck_start(task: *const u64, task_len: usize, run: *mut u64, run_len: usize) -> u64;
 
     pub fn lawcheck_play(

@@ -51,11 +51,13 @@ refusals! {
     Ends = ENDS: "the ends, or a place past its plan's end",
     NoSolution = NO_SOLUTION: "a plan does not solve",
     Pick = PICK: "no step left, waiting, or already collided",
-    Short = SHORT: "a lent slice is too short",
+    Short = SHORT: "a lent slice is too short, or a change number too large",
     Text = TEXT: "the text's form, or the waits'",
     Pddl = PDDL: "a text outside the subset of PDDL, or without a member",
     Name = NAME: "a name or number unknown, a name twice, or members that differ",
     Many = MANY: "more facts, members or actions than a task allows",
+    Stale = STALE: "the ticket's change number is not the run's",
+    Changes = CHANGES: "the run's change number is the last one",
 }
 
 impl Refusal {
@@ -204,23 +206,31 @@ pub fn joint_replay(
 }
 
 /// A run that the caller holds: whether it has collided, each member's place in its plan, the
-/// shared copy.
+/// shared copy, and the change number, which counts the picks done on it.
+///
+/// [`Run::pick`] does a member's next step. Where its answer has to be known before it is done,
+/// [`Run::ask`] gives the answer and a [`Ticket`], and [`Run::commit`] does the step.
 #[derive(Clone, Debug, PartialEq, Eq)]
 pub struct Run {
     words: [u64; raw::RUN_WORDS],
 }
 
 impl Run {
-    /// A run at its start: the task's initial copy, all places 0.
+    /// A run at its start: the task's initial copy, all places 0, change number 0.
     pub fn start(task: &[u64]) -> Result<Run, Refusal> {
         let mut words = [0; raw::RUN_WORDS];
         answered(raw::start(task, &mut words))?;
         Ok(Run { words })
     }
 
-    /// A run of these words, as the header has them. A pick refuses those that no run has.
-    pub fn of_words(words: [u64; raw::RUN_WORDS]) -> Run {
-        Run { words }
+    /// A run of these words, as the header has them. A change number above
+    /// [`raw::LAST_CHANGE`] is refused as too large; the other words that no run has are refused
+    /// by a pick.
+    pub fn of_words(words: [u64; raw::RUN_WORDS]) -> Result<Run, Refusal> {
+        if words[raw::RUN_CHANGE] > u64::from(raw::LAST_CHANGE) {
+            return Err(Refusal::Short);
+        }
+        Ok(Run { words })
     }
 
     pub fn words(&self) -> &[u64; raw::RUN_WORDS] {
@@ -240,8 +250,13 @@ impl Run {
         self.words[raw::RUN_SHARED]
     }
 
+    /// The picks done, a colliding one too.
+    pub fn change(&self) -> u32 {
+        self.words[raw::RUN_CHANGE] as u32
+    }
+
     /// Does a member's next step. Each pick looks at all plans anew; [`Run::play`] does a list of
-    /// picks and looks at them once.
+    /// picks and looks at them once. Tickets that were asked for before are stale afterwards.
     pub fn pick(
         &mut self,
         task: &[u64],
@@ -251,17 +266,46 @@ impl Run {
     ) -> Result<Picked, Refusal> {
         let mut out = [0; raw::PICK_OUT];
         answered(raw::pick(task, plans, ends, &mut self.words, member, &mut out))?;
-        Ok(match out[0] {
-            raw::PICK_GO => Picked::Go,
-            raw::PICK_COLLISION => Picked::Collision,
-            number => unknown(number),
-        })
+        Ok(Picked::of(out[0]))
     }
-}
 
-impl Run {
+    /// What a member's next step would answer, a step that waits too, and a ticket for it. The run
+    /// stays as it is.
+    pub fn ask(
+        &self,
+        task: &[u64],
+        plans: &[u16],
+        ends: &[u64],
+        member: u8,
+    ) -> Result<Asked, Refusal> {
+        let mut out = [0; raw::ASK_OUT];
+        answered(raw::ask(task, plans, ends, &self.words, member, &mut out))?;
+        let step = match out[0] {
+            raw::ASK_GO => Step::Go(out[1]),
+            raw::ASK_WAIT => Step::Wait,
+            raw::ASK_COLLISION => Step::Collision,
+            number => unknown(number),
+        };
+        Ok(Asked { step, ticket: Ticket { member: out[2] as u8, change: out[3] as u32 } })
+    }
+
+    /// Does the pick that a ticket is for; its answer is what [`Run::ask`] gives on this run. A
+    /// ticket is stale once another pick or commit was done.
+    pub fn commit(
+        &mut self,
+        task: &[u64],
+        plans: &[u16],
+        ends: &[u64],
+        ticket: Ticket,
+    ) -> Result<Picked, Refusal> {
+        let mut out = [0; raw::COMMIT_OUT];
+        let Ticket { member, change } = ticket;
+        answered(raw::commit(task, plans, ends, &mut self.words, member, change, &mut out))?;
+        Ok(Picked::of(out[0]))
+    }
+
     /// Does picks in turn, each where the last one left the run: what each answers, a refusal for
-    /// one that is not possible there and was passed over.
+    /// one that was passed over.
     pub fn play(
         &mut self,
         task: &[u64],
@@ -274,8 +318,7 @@ impl Run {
         Ok(answers
             .into_iter()
             .map(|number| match number {
-                raw::PICK_GO => Ok(Picked::Go),
-                raw::PICK_COLLISION => Ok(Picked::Collision),
+                raw::PICK_GO | raw::PICK_COLLISION => Ok(Picked::of(number)),
                 number => Err(Refusal::of(number).unwrap_or_else(|| unknown(number))),
             })
             .collect())
@@ -287,6 +330,32 @@ impl Run {
 pub enum Picked {
     Go,
     Collision,
+}
+
+impl Picked {
+    fn of(number: u64) -> Picked {
+        match number {
+            raw::PICK_GO => Picked::Go,
+            raw::PICK_COLLISION => Picked::Collision,
+            number => unknown(number),
+        }
+    }
+}
+
+/// What [`Run::ask`] answers.
+#[derive(Clone, Copy, Debug, PartialEq, Eq)]
+pub struct Asked {
+    /// What the member's next step would do.
+    pub step: Step,
+    pub ticket: Ticket,
+}
+
+/// A member and a change number, for [`Run::commit`]. One that nobody asked for is as good as any
+/// other where its change number is the run's.
+#[derive(Clone, Copy, Debug, PartialEq, Eq, Hash)]
+pub struct Ticket {
+    pub member: u8,
+    pub change: u32,
 }
 
 /// Whether a law is robust.

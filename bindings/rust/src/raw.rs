@@ -17,16 +17,19 @@ macro_rules! constants {
 constants! {
     u64: LENGTH = 1, RANGE = 2, GOAL_ROW = 3, FACT = 4, OWNER = 5, WAIT = 6, ACTION = 7, MEMBER = 8,
         FULL = 9, OTHERS = 10, ENDS = 11, NO_SOLUTION = 12, PICK = 13, SHORT = 14, TEXT = 15,
-        PDDL = 16, NAME = 17, MANY = 18;
+        PDDL = 16, NAME = 17, MANY = 18, STALE = 19, CHANGES = 20;
     usize: STEP_OUT = 2, SOLO_REPLAY_OUT = 2, SOLO_SEARCH_OUT = 3, JOINT_REPLAY_OUT = 4,
-        PICK_OUT = 1, VERDICT_OUT = 3, READ_OUT = 1, PDDL_READ_OUT = 1, PDDL_WRITE_OUT = 2,
-        RUN_WORDS = 10, TEXT_WORDS = 1325, PDDL_BYTES = 1048576;
+        PICK_OUT = 1, ASK_OUT = 4, COMMIT_OUT = 1, VERDICT_OUT = 3, READ_OUT = 1,
+        PDDL_READ_OUT = 1, PDDL_WRITE_OUT = 2, RUN_WORDS = 11, TEXT_WORDS = 1325,
+        PDDL_BYTES = 1048576;
     u64: STEP_GO = 0, STEP_WAIT = 1, STEP_COLLISION = 2;
     u64: SOLVES = 0, BREAKS = 1, GOAL_SHORT = 2;
     u64: RUN_SUCCESS = 0, RUN_COLLISION = 1, RUN_DEADLOCK = 2, RUN_MISSED = 3, RUN_OPEN = 4;
     u64: PICK_GO = 0, PICK_COLLISION = 1;
+    u64: ASK_GO = 0, ASK_WAIT = 1, ASK_COLLISION = 2;
     u64: ROBUST = 0, UNSOLVABLE = 1, COLLISION = 2, DEADLOCK = 3, MISSED = 4;
-    usize: RUN_COLLIDED = 0, RUN_PLACES = 1, RUN_SHARED = 9;
+    usize: RUN_COLLIDED = 0, RUN_PLACES = 1, RUN_SHARED = 9, RUN_CHANGE = 10;
+    u32: LAST_CHANGE = 4294967295;
 }
 
 /// The task check.
@@ -113,7 +116,8 @@ pub fn joint_replay(
     }
 }
 
-/// A pick on a run of ten words: collided, eight places, the shared copy. `out`: 0 go, 1 collision.
+/// A pick on a run of eleven words: collided, eight places, the shared copy, the change number.
+/// `out`: 0 go, 1 collision.
 pub fn pick(
     task: &[u64],
     plans: &[u16],
@@ -139,13 +143,68 @@ pub fn pick(
     }
 }
 
-/// The start of a run, written to its ten words.
+/// What a member's next step would answer on a run, and a ticket for it. `out`: 0 go, 1 wait, 2
+/// collision; the new shared copy; the ticket's member; its change number.
+pub fn ask(
+    task: &[u64],
+    plans: &[u16],
+    ends: &[u64],
+    run: &[u64],
+    member: u8,
+    out: &mut [u64],
+) -> u64 {
+    unsafe {
+        lawcheck_ask(
+            task.as_ptr(),
+            task.len(),
+            plans.as_ptr(),
+            plans.len(),
+            ends.as_ptr(),
+            ends.len(),
+            run.as_ptr(),
+            run.len(),
+            member,
+            out.as_mut_ptr(),
+            out.len(),
+        )
+    }
+}
+
+/// The pick of a ticket, a member and a change number. `out`: 0 go, 1 collision.
+pub fn commit(
+    task: &[u64],
+    plans: &[u16],
+    ends: &[u64],
+    run: &mut [u64],
+    member: u8,
+    change: u32,
+    out: &mut [u64],
+) -> u64 {
+    unsafe {
+        lawcheck_commit(
+            task.as_ptr(),
+            task.len(),
+            plans.as_ptr(),
+            plans.len(),
+            ends.as_ptr(),
+            ends.len(),
+            run.as_mut_ptr(),
+            run.len(),
+            member,
+            change,
+            out.as_mut_ptr(),
+            out.len(),
+        )
+    }
+}
+
+/// The start of a run, written to its eleven words.
 pub fn start(task: &[u64], run: &mut [u64]) -> u64 {
     unsafe { lawcheck_start(task.as_ptr(), task.len(), run.as_mut_ptr(), run.len()) }
 }
 
-/// Picks on a run in turn, impossible ones passed over. `answers`: 0 go, 1 collision, 8 or 13 for
-/// each pick.
+/// Picks on a run in turn, those that are refused passed over. `answers`: 0 go, 1 collision, 8, 13
+/// or 20 for each pick.
 #[allow(clippy::too_many_arguments)]
 pub fn play(
     task: &[u64],

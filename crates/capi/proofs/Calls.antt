@@ -3,6 +3,7 @@ use mathlib.Core.Path.{_≡_, refl, sym, ap, ap₂, subst, _∙_}
 use mathlib.Core.Bool.{Bool, true, false, not, _||_}
 use mathlib.Core.List.{List, [], _∷_}
 use Prim.Native.Nat.{ℕ, _≤_, _<_}
+use native.Mathlib.Omega.{arith}
 use lib.ListN.{length, getD}
 use lib.Dec.{eqb, ltb}
 use borrow.Author.Tests.{lt-ltb, le-ltb, eq-eqb, ne-eqb}
@@ -10,7 +11,9 @@ use mir.Val.{boolByte}
 use Rattle.semantics.specs.Base.{Answer, refused, gives, front}
 use Rattle.semantics.specs.Step.{step}
 use Rattle.semantics.specs.Solo.{soloReplay, soloSearch, SoloSearch}
-use Rattle.semantics.specs.Run.{jointReplay, pickOn}
+use Rattle.semantics.specs.Run.{jointReplay}
+use Rattle.semantics.specs.Dispatch as Paper′
+use Rattle.semantics.specs.Dispatch.{Numbered, pickNumbered, askOn, commitOn}
 use Rattle.semantics.specs.Run as Paper
 use Rattle.semantics.specs.PddlWrite.{Writing}
 use Rattle.semantics.specs.Text.{Reading}
@@ -28,17 +31,17 @@ use Rattle.solo_replay.specs.declared.SoloAnswer.the-variants as solved
 use Rattle.solo_search.specs.Value.{searchedOf}
 use Rattle.solo_search.specs.declared.SearchAnswer.{SearchAnswer}
 use Rattle.solo_search.specs.declared.SearchAnswer.the-variants as search′
-use Rattle.run_pick.specs.Value as picksValue
-use Rattle.run_pick.specs.Value.{runOf, replyOf, outcomeOf, PickMeans}
-use Rattle.run_pick.specs.declared.Replay.{Replay}
-use Rattle.run_pick.specs.declared.ReplayAnswer.{ReplayAnswer}
-use Rattle.run_pick.specs.declared.ReplayAnswer.the-variants as replayed
-use Rattle.run_pick.specs.declared.Reply.{Reply}
-use Rattle.run_pick.specs.declared.Run.{Run}
-use Rattle.run_pick.specs.declared.Picked.{Picked}
-use Rattle.run_pick.specs.declared.Answer.the-variants as answer
+use Rattle.run_outcome.specs.Value as outcomeValue
+use Rattle.run_outcome.specs.Value.{outcomeOf}
+use Rattle.run_outcome.specs.declared.Replay.{Replay}
+use Rattle.run_outcome.specs.declared.ReplayAnswer.{ReplayAnswer}
+use Rattle.run_outcome.specs.declared.ReplayAnswer.the-variants as replayed
+use Rattle.run_ticket.specs.Value.{numberedOf, askedOf, dispatchedOf, DispatchMeans}
+use Rattle.run_ticket.specs.declared.AskAnswer.{AskAnswer}
+use Rattle.run_ticket.specs.declared.Dispatched.{Dispatched}
+use Rattle.run_ticket.specs.declared.Numbered.{Numbered as Given}
+use Rattle.run_ticket.proofs.Laws.{means-dispatched}
 use Rattle.theory.proofs.Lists.{or-left, or-right}
-use Rattle.run_pick.proofs.Laws.{means-gives, means-refused}
 use Rattle.text.specs.Post.{reading}
 use Rattle.pddl_write.specs.Post.{writing}
 use Rattle.pddl_write.specs.declared.Written.{Written}
@@ -49,8 +52,10 @@ use Rattle.fault.specs.Value.{answerOf}
 use Rattle.fault.specs.declared.VerdictAnswer.{VerdictAnswer}
 use Rattle.capi_numbers.specs.Call.{Call, call, told, unlessShort, called, verdictCall}
 use Rattle.capi_numbers.specs.Numbers as numbers
-use Rattle.capi_numbers.specs.Runs.{runWords, runIn, wordsOf, after}
+use Rattle.capi_run.specs.Runs.{runWords, noRun, runIn, after}
 use Rattle.capi_numbers.proofs.Told.{byte}
+use Rattle.capi_run.proofs.Told.{run-words}
+use Rattle.capi.specs.Play.{RunCall}
 
 -- ---- any operation
 
@@ -150,17 +155,17 @@ module _ (t plans ends picks out : List ℕ) where
       short-call numbers.replay out (jointReplay t plans ends picks) (ltb (length out) 4) (lt-ltb (length out) 4 h)
 
   module _ (room : 4 ≤ length out) (s : ReplayAnswer)
-      (is : picksValue.replayedOf s ≡ jointReplay t plans ends picks) where
+      (is : outcomeValue.replayedOf s ≡ jointReplay t plans ends picks) where
     pub joint-refused : (k : ℕ) → s ≡ replayed.Refused k → JointCall (call k out)
     joint-refused k so =
         refused-call numbers.replay out (jointReplay t plans ends picks) (ltb (length out) 4) k (long out 4 room)
-        (sym is ∙ ap picksValue.replayedOf so)
+        (sym is ∙ ap outcomeValue.replayedOf so)
 
     pub joint-given : (r : Replay) (g : ℕ) (ns now : List ℕ) → s ≡ replayed.Gives r → g ≡ number (r .shared .0)
         → ns ≡ numbers.replayed (outcomeOf (r .outcome)) (r .picked) g → now ≡ front ns out → JointCall (call 0 now)
     joint-given r g ns now so same e put =
-        given-call numbers.replay out (jointReplay t plans ends picks) (ltb (length out) 4) (picksValue.replayOf r) now
-        (long out 4 room) (sym is ∙ ap picksValue.replayedOf so)
+        given-call numbers.replay out (jointReplay t plans ends picks) (ltb (length out) 4) (outcomeValue.replayOf r) now
+        (long out 4 room) (sym is ∙ ap outcomeValue.replayedOf so)
         (put ∙ ap (λ (x : List ℕ). front x out) (e ∙ ap (numbers.replayed (outcomeOf (r .outcome)) (r .picked)) same))
 
 -- ---- solo search
@@ -213,58 +218,110 @@ module _ (t table marks out : List ℕ) (member : ℕ) where
         (sym (ap (λ (x : SoloSearch). x .answer) is) ∙ ap (λ (x : SearchAnswer). searchedOf x table′ marks′ .answer) so)
         (put ∙ ap (λ (x : ℕ). front (count ∷ x ∷ marked ∷ []) out) (byte live)))
 
--- ---- a pick on a run
+-- ---- a pick and a commit on a run
 
-module _ (t plans ends run out : List ℕ) (member : ℕ) where
-  abbrev pickShort : Bool
-  pickShort = ltb (length run) runWords || ltb (length out) 1
+module _ (means : Answer (Paper.Replied (Numbered ℕ))) (run out : List ℕ) where
+  run-fails : noRun run || ltb (length out) 1 ≡ true → RunCall means run out (call 14 out) run
+  run-fails e =
+      record {
+        told = short-call numbers.picked out means (noRun run || ltb (length out) 1) e;
+        held = short-slice run (after run means) (noRun run || ltb (length out) 1) e;
+      }
 
-  abbrev done : Answer (Paper.Replied ℕ)
-  done = pickOn t plans ends (runIn run) member
+  run-answers : noRun run || ltb (length out) 1 ≡ false → (d : Dispatched) → means ≡ dispatchedOf d
+      → (run′ : List ℕ) (c : Call) → c ≡ told numbers.picked out (dispatchedOf d)
+      → run′ ≡ after run (dispatchedOf d) → RunCall means run out c run′
+  run-answers e d is run′ c put held = record { told = rw (e, is) put; held = rw (e, is) held }
 
-  abbrev PickCall : List ℕ → Call → Type 0
-  PickCall run′ c =
-      (c ≡ called (ltb (length run) runWords || ltb (length out) 1) numbers.picked out
-      (pickOn t plans ends (runIn run) member))
-      × (run′ ≡ unlessShort (ltb (length run) runWords || ltb (length out) 1) run
-      (after run (pickOn t plans ends (runIn run) member)))
+-- words that hold a run
+module _ (run : List ℕ) (b : Bool) (e : b ≡ noRun run) (h : b ≡ false) where
+  pub run-there : noRun run ≡ false
+  run-there = sym e ∙ h
 
-  pub pick-run : length run < runWords → PickCall run (call 14 out)
-  pick-run h =
-      let e = or-left (ltb (length run) runWords) (ltb (length out) 1) (lt-ltb (length run) runWords h) in
-      (short-call numbers.picked out done pickShort e, short-slice run (after run done) pickShort e)
+  pub words-there : runWords ≤ length run
+  words-there = run-words run run-there
 
-  pub pick-short : length out < 1 → PickCall run (call 14 out)
-  pick-short h =
-      let e = or-right (ltb (length run) runWords) (ltb (length out) 1) (lt-ltb (length out) 1 h) in
-      (short-call numbers.picked out done pickShort e, short-slice run (after run done) pickShort e)
+  pub room-there : (w : List ℕ) → length w ≡ 11 → length w ≤ length run
+  room-there w q = omega (arith, words-there)
 
-  module _ (room : runWords ≤ length run) (space : 1 ≤ length out) (r : Run) (is : runOf r ≡ runIn run) (p : Picked)
-      (means : PickMeans (pickOn t plans ends (runOf r) member) r p) where
-    fits′ : pickShort ≡ false
-    fits′ = ap₂ _||_ (long run runWords room) (long out 1 space)
+-- the two ways to be short, and neither
+module _ (run out : List ℕ) (k : ℕ) (b : Bool) (e : b ≡ noRun run) where
+  no-run : b ≡ true → noRun run || ltb (length out) k ≡ true
+  no-run h = or-left (noRun run) (ltb (length out) k) (sym e ∙ h)
 
-    here : PickMeans done r p
-    here = subst (λ (x : Paper.Run ℕ). PickMeans (pickOn t plans ends x member) r p) is means
+  no-room : length out < k → noRun run || ltb (length out) k ≡ true
+  no-room h = or-right (noRun run) (ltb (length out) k) (lt-ltb (length out) k h)
 
-    pub pick-refused : (k : ℕ) → p .answer ≡ answer.Refused k → PickCall run (call k out)
-    pick-refused k so =
-        let is : done ≡ refused k = means-refused here k so in (
-          refused-call numbers.picked out done pickShort k fits′ is,
-          called-slice run (after run done) pickShort run fits′ (sym (ap (after run) is)),
-        )
+  both-there : b ≡ false → k ≤ length out → noRun run || ltb (length out) k ≡ false
+  both-there h room = ap₂ _||_ (sym e ∙ h) (long out k room)
 
-    pub pick-given : (x : Reply) → p .answer ≡ answer.Gives x → (k : ℕ) → k ≡ numbers.reply (replyOf x)
-        → (result : ℕ) (now run′ : List ℕ) → call result now ≡ call 0 (front (k ∷ []) out)
-        → run′ ≡ front (wordsOf (runOf (p .run))) run → PickCall run′ (call result now)
-    pick-given x so k number′ result now run′ put held =
-        let is : done ≡ gives (record { reply = replyOf x; run = runOf (p .run) }) = means-gives here x so in (
-          put
-              ∙ given-call numbers.picked out done pickShort (record { reply = replyOf x; run = runOf (p .run) })
-              (front (k ∷ []) out)
-              fits′ is (ap (λ (n : ℕ). front (n ∷ []) out) number′),
-          called-slice run (after run done) pickShort run′ fits′ (held ∙ sym (ap (after run) is)),
-        )
+-- the meaning of a call on the run that the words hold
+run-means : (means : Numbered ℕ → Answer (Paper.Replied (Numbered ℕ))) (run : List ℕ) (at : Given)
+    → numberedOf at ≡ runIn run → (d : Dispatched) → DispatchMeans (means (numberedOf at)) at d
+    → means (runIn run) ≡ dispatchedOf d
+run-means means run at is d m = ap means (sym is) ∙ means-dispatched at d m
+
+module _ (t plans ends run out : List ℕ) (member : ℕ) (b : Bool) (e : b ≡ noRun run) where
+  abbrev Picks : Call → List ℕ → Type 0
+  Picks c run′ = RunCall (pickNumbered t plans ends (runIn run) member) run out c run′
+
+  pub pick-run : b ≡ true → Picks (call 14 out) run
+  pick-run h = run-fails (pickNumbered t plans ends (runIn run) member) run out (no-run run out 1 b e h)
+
+  pub pick-short : length out < 1 → Picks (call 14 out) run
+  pick-short h = run-fails (pickNumbered t plans ends (runIn run) member) run out (no-room run out 1 b e h)
+
+  pub pick-told : b ≡ false → 1 ≤ length out → (at : Given) → numberedOf at ≡ runIn run → (d : Dispatched)
+      → DispatchMeans (pickNumbered t plans ends (numberedOf at) member) at d
+      → (run′ now : List ℕ) (result : ℕ) → call result now ≡ told numbers.picked out (dispatchedOf d)
+      → run′ ≡ after run (dispatchedOf d) → Picks (call result now) run′
+  pick-told h room at is d m run′ now result put held =
+      run-answers (pickNumbered t plans ends (runIn run) member) run out (both-there run out 1 b e h room) d
+      (run-means (λ x. pickNumbered t plans ends x member) run at is d m) run′ (call result now) put held
+
+module _ (t plans ends run out : List ℕ) (member change : ℕ) (b : Bool) (e : b ≡ noRun run) where
+  abbrev ticket : Paper′.Ticket
+  ticket = record { member = member; change = change }
+
+  abbrev Commits : Call → List ℕ → Type 0
+  Commits c run′ = RunCall (commitOn t plans ends (runIn run) ticket) run out c run′
+
+  pub commit-run : b ≡ true → Commits (call 14 out) run
+  commit-run h = run-fails (commitOn t plans ends (runIn run) ticket) run out (no-run run out 1 b e h)
+
+  pub commit-short : length out < 1 → Commits (call 14 out) run
+  commit-short h = run-fails (commitOn t plans ends (runIn run) ticket) run out (no-room run out 1 b e h)
+
+  pub commit-told : b ≡ false → 1 ≤ length out → (at : Given) → numberedOf at ≡ runIn run → (d : Dispatched)
+      → DispatchMeans (commitOn t plans ends (numberedOf at) ticket) at d
+      → (run′ now : List ℕ) (result : ℕ) → call result now ≡ told numbers.picked out (dispatchedOf d)
+      → run′ ≡ after run (dispatchedOf d) → Commits (call result now) run′
+  commit-told h room at is d m run′ now result put held =
+      run-answers (commitOn t plans ends (runIn run) ticket) run out (both-there run out 1 b e h room) d
+      (run-means (λ x. commitOn t plans ends x ticket) run at is d m) run′ (call result now) put held
+
+-- ---- an ask
+
+module _ (t plans ends run out : List ℕ) (member : ℕ) (b : Bool) (e : b ≡ noRun run) where
+  abbrev AskCall : Call → Type 0
+  AskCall c =
+      c ≡ called (noRun run || ltb (length out) 4) numbers.asked out (askOn t plans ends (runIn run) member)
+
+  ask-fails : noRun run || ltb (length out) 4 ≡ true → AskCall (call 14 out)
+  ask-fails = short-call numbers.asked out (askOn t plans ends (runIn run) member) (noRun run || ltb (length out) 4)
+
+  pub ask-run : b ≡ true → AskCall (call 14 out)
+  ask-run h = ask-fails (no-run run out 4 b e h)
+
+  pub ask-short : length out < 4 → AskCall (call 14 out)
+  ask-short h = ask-fails (no-room run out 4 b e h)
+
+  pub ask-told : b ≡ false → 4 ≤ length out → (at : Given) → numberedOf at ≡ runIn run → (a : AskAnswer)
+      → askedOf a ≡ askOn t plans ends (numberedOf at) member → (c : Call) → c ≡ told numbers.asked out (askedOf a)
+      → AskCall c
+  ask-told h room at is a q c put =
+      rw (both-there run out 4 b e h room)
+      (put ∙ ap (told numbers.asked out) (q ∙ ap (λ (d : Numbered ℕ). askOn t plans ends d member) is))
 
 -- ---- the readers of a text and of PDDL
 

@@ -1,5 +1,6 @@
 -- What each way out of the start and of a list of picks comes to. Assumes nothing.
 use mathlib.Core.Path.{_≡_, refl, sym, ap, subst, _∙_}
+use mathlib.Core.Bool.{Bool, true, false}
 use mathlib.Core.List.{List}
 use Prim.Native.Nat.{ℕ, zero, suc, _≤_, _<_}
 use native.Mathlib.Omega.{arith}
@@ -7,24 +8,23 @@ use lib.ListN.{length}
 use borrow.Author.Tests.{lt-ltb, le-ltb}
 use Rattle.semantics.specs.Base.{gives, unless, front}
 use Rattle.semantics.specs.Task.{check}
-use Rattle.semantics.specs.System.{system}
-use Rattle.semantics.specs.Run as Paper
-use Rattle.semantics.specs.Run.{start, startOf}
+use Rattle.semantics.specs.Dispatch as Paper
+use Rattle.semantics.specs.Dispatch.{first, startOf}
 use Rattle.theory.proofs.Lists.{apart}
-use Rattle.run_pick.specs.Value.{runOf}
-use Rattle.run_pick.specs.declared.Run.{Run}
+use Rattle.run_ticket.specs.Value.{numberedOf}
+use Rattle.run_ticket.specs.declared.Numbered.{Numbered}
 use Rattle.run_dispatch.specs.Value.{RunMeans, emptyRun}
 use Rattle.run_dispatch.specs.declared.Started.{Started}
 use Rattle.run_play.specs.Value.{playFrom, playRefusal, answered, PlayMeans}
 use Rattle.run_play.specs.declared.Played.{Played}
 use Rattle.run_play.proofs.Laws.{leaves-none, leaves-some}
-use Rattle.capi_numbers.specs.Runs.{runWords, runIn, wordsOf}
+use Rattle.capi_run.specs.Runs.{runWords, noRun, runIn, wordsOf}
 use Rattle.capi.specs.Play.{startRefusal, StartCall, refusesPlay, PlayCall}
 
 -- ---- the start
 
 -- two answers of a run are equal: so are their refusals, and where there is none their runs
-same-answers : (e c : ℕ) (x y : Paper.Run ℕ) → unless e (gives x) ≡ unless c (gives y) → (e ≡ c) × (e ≡ 0 → x ≡ y)
+same-answers : (e c : ℕ) (x y : Paper.Numbered ℕ) → unless e (gives x) ≡ unless c (gives y) → (e ≡ c) × (e ≡ 0 → x ≡ y)
 same-answers zero zero x y h = (refl, λ z. cc)
 same-answers zero (suc c) x y h = absurd (apart (cc))
 same-answers (suc e) zero x y h = absurd (apart (cc))
@@ -37,14 +37,14 @@ module _ (t run : List ℕ) where
       record {
         number = is;
         held =
-            leaves-some (startRefusal t run) run (front (wordsOf (start (system t))) run) (λ z. omega (arith, is, z));
+            leaves-some (startRefusal t run) run (front (wordsOf (first t)) run) (λ z. omega (arith, is, z));
       }
 
   module _ (room : runWords ≤ length run) (s : Started)
       (means : RunMeans (startOf t) emptyRun (s .refusal) (s .run)) where
-    checks : (s .refusal ≡ startRefusal t run) × (s .refusal ≡ 0 → runOf (s .run) ≡ start (system t))
+    checks : (s .refusal ≡ startRefusal t run) × (s .refusal ≡ 0 → numberedOf (s .run) ≡ first t)
     checks =
-        let both = same-answers (s .refusal) (check t) (runOf (s .run)) (start (system t)) (means .answer) in
+        let both = same-answers (s .refusal) (check t) (numberedOf (s .run)) (first t) (means .answer) in
         (both .0 ∙ rw (le-ltb (length run) runWords room), both .1)
 
     pub start-refused : (s .refusal ≡ 0 → ⊥) → StartCall t run (s .refusal) run
@@ -52,10 +52,10 @@ module _ (t run : List ℕ) where
         record {
           number = checks .0;
           held =
-              leaves-some (startRefusal t run) run (front (wordsOf (start (system t))) run) (λ z. h (checks .0 ∙ z));
+              leaves-some (startRefusal t run) run (front (wordsOf (first t)) run) (λ z. h (checks .0 ∙ z));
         }
 
-    pub start-given : s .refusal ≡ 0 → (w run′ : List ℕ) → w ≡ wordsOf (runOf (s .run)) → run′ ≡ front w run
+    pub start-given : s .refusal ≡ 0 → (w run′ : List ℕ) → w ≡ wordsOf (numberedOf (s .run)) → run′ ≡ front w run
         → StartCall t run 0 run′
     start-given z w run′ is held =
         let none : startRefusal t run ≡ 0 = sym (checks .0) ∙ z in
@@ -63,7 +63,7 @@ module _ (t run : List ℕ) where
           number = sym none;
           held =
               held ∙ ap (λ (l : List ℕ). front l run) (is ∙ ap wordsOf (checks .1 z))
-              ∙ leaves-none (startRefusal t run) run (front (wordsOf (start (system t))) run) none;
+              ∙ leaves-none (startRefusal t run) run (front (wordsOf (first t)) run) none;
         }
 
 -- ---- a list of picks
@@ -78,24 +78,24 @@ module _ (t plans ends run picks answers : List ℕ) where
   abbrev numbers : List ℕ
   numbers = answered t plans ends (runIn run) picks answers
 
-  pub play-short : length run < runWords → PlayCall t plans ends run picks answers 14 run answers
-  play-short h =
-      let is : 14 ≡ refuses = rw (lt-ltb (length run) runWords h) in
+  pub play-short : (b : Bool) → b ≡ noRun run → b ≡ true → PlayCall t plans ends run picks answers 14 run answers
+  play-short b e h =
+      let is : 14 ≡ refuses = rw (← e, h) in
       let some : refuses ≡ 0 → ⊥ = λ z. omega (arith, is, z) in
       record { number = is; held = leaves-some refuses run words some; told = leaves-some refuses answers numbers some }
 
-  module _ (room : runWords ≤ length run) (r : Run) (in-words : runOf r ≡ runIn run) (p : Played) (answers′ : List ℕ)
-      (means : PlayMeans t plans ends (playRefusal t plans ends (runOf r) picks answers)
-      (runOf r) picks answers p answers′) where
+  module _ (b : Bool) (e : b ≡ noRun run) (room : b ≡ false) (r : Numbered) (in-words : numberedOf r ≡ runIn run) (p : Played) (answers′ : List ℕ)
+      (means : PlayMeans t plans ends (playRefusal t plans ends (numberedOf r) picks answers)
+      (numberedOf r) picks answers p answers′) where
     there : PlayMeans t plans ends (playRefusal t plans ends (runIn run) picks answers)
         (runIn run) picks answers p answers′
     there =
-        subst (λ (x : Paper.Run ℕ). PlayMeans t plans ends
+        subst (λ (x : Paper.Numbered ℕ). PlayMeans t plans ends
         (playRefusal t plans ends x picks answers) x picks answers p answers′)
         in-words means
 
     same : playRefusal t plans ends (runIn run) picks answers ≡ refuses
-    same = rw (le-ltb (length run) runWords room)
+    same = rw (← e, room)
 
     is : p .refusal ≡ refuses
     is = there .refusal ∙ same
@@ -113,18 +113,18 @@ module _ (t plans ends run picks answers : List ℕ) where
               ∙ leaves-some refuses answers numbers some;
         }
 
-    pub play-given : p .refusal ≡ 0 → (w run′ : List ℕ) → w ≡ wordsOf (runOf (p .run)) → run′ ≡ front w run
+    pub play-given : p .refusal ≡ 0 → (w run′ : List ℕ) → w ≡ wordsOf (numberedOf (p .run)) → run′ ≡ front w run
         → PlayCall t plans ends run picks answers 0 run′ answers′
-    play-given z w run′ e held =
+    play-given z w run′ q held =
         let none : refuses ≡ 0 = sym is ∙ z in
         let inner : playRefusal t plans ends (runIn run) picks answers ≡ 0 = same ∙ none in
-        let played : runOf (p .run) ≡ playFrom t plans ends (runIn run) picks =
+        let played : numberedOf (p .run) ≡ playFrom t plans ends (runIn run) picks =
         there .run
         ∙ sym (leaves-none (playRefusal t plans ends (runIn run) picks answers) (runIn run)
         (playFrom t plans ends (runIn run) picks) inner) in
         record {
           number = sym none;
-          held = held ∙ ap (λ (l : List ℕ). front l run) (e ∙ ap wordsOf played) ∙ leaves-none refuses run words none;
+          held = held ∙ ap (λ (l : List ℕ). front l run) (q ∙ ap wordsOf played) ∙ leaves-none refuses run words none;
           told =
               there .answers
               ∙ sym (leaves-none (playRefusal t plans ends (runIn run) picks answers) answers numbers inner)

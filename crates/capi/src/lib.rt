@@ -1,6 +1,7 @@
 // The C interface: every operation, thin over the proved ones; include/lawcheck.h documents it.
 // Each function returns the refusal, or 0 for an answer, whose numbers go to the front of `out`; a
-// slice shorter than stated is refused with 14 before anything else.
+// slice shorter than stated, or a change number of more than 32 bits, is refused with 14 before
+// anything else.
 ghost use mathlib.Core.Path.{_≡_};
 ghost use mathlib.Core.Bool.{not, _||_};
 ghost use lib.ListN.{length, getD};
@@ -9,18 +10,19 @@ ghost use Rattle.semantics.specs.Verdict.{lentOf};
 ghost use Rattle.semantics.specs.Task.{check};
 ghost use Rattle.semantics.specs.Step.{step};
 ghost use Rattle.semantics.specs.Solo.{soloReplay, soloSearch};
-ghost use Rattle.semantics.specs.Run.{jointReplay, pickOn};
+ghost use Rattle.semantics.specs.Run.{jointReplay};
+ghost use Rattle.semantics.specs.Dispatch.{pickNumbered, askOn, commitOn};
 ghost use Rattle.semantics.specs.Pddl.{readPddl};
 ghost use Rattle.semantics.specs.PddlWrite.{writePddl};
 ghost use Rattle.semantics.specs.Text.{readText};
 ghost use Rattle.capi_numbers.specs.Call.{call, unlessShort, called, verdictCall};
 ghost use Rattle.capi_numbers.specs.Numbers as numbers;
-ghost use Rattle.capi_numbers.specs.Runs.{runWords, runIn, after};
-ghost use Rattle.capi.specs.Play.{StartCall, PlayCall};
+ghost use Rattle.capi_run.specs.Runs.{noRun, runIn};
+ghost use Rattle.capi.specs.Play.{RunCall, StartCall, PlayCall};
 use mask::Shared;
 use pddl_write::Written;
-use run_pick::Answer;
-use run_pick::ReplayAnswer;
+use run_outcome::ReplayAnswer;
+use run_ticket::Ticket;
 use solo_replay::SoloAnswer;
 use solo_search::SearchAnswer;
 use step::Stepped;
@@ -31,9 +33,6 @@ const SHORT: u64 = 14;
 
 // Words of a mask.
 const MASK_WORDS: usize = 1;
-
-// Words of a run.
-const RUN_WORDS: usize = 10;
 
 // ---- task check
 
@@ -160,7 +159,7 @@ pub extern "C" fn lawcheck_joint_replay(
     }
 }
 
-// ---- a pick on a run: the dispatcher is lent the run that the words hold
+// ---- a pick, an ask and a commit on a run: the dispatcher is lent the run that the words hold
 
 #[no_mangle]
 pub extern "C" fn lawcheck_pick(
@@ -171,35 +170,73 @@ pub extern "C" fn lawcheck_pick(
     member: u8,
     out: &mut [u64],
 ) -> u64
-    ensures { λ r. ⌜ call r (now (out .exit))
-        ≡ called (ltb (length (now (run .entry))) runWords || ltb
-        (length (now (out .entry))) 1) numbers.picked (now (out .entry))
-        (pickOn (now (t .entry)) (now (plans .entry)) (now (ends .entry))
-        (runIn (now (run .entry))) member) ⌝ }
-    ensures { λ _. ⌜ now (run .exit)
-        ≡ unlessShort
-        (ltb (length (now (run .entry))) runWords || ltb (length (now (out .entry))) 1)
-        (now (run .entry))
-        (after (now (run .entry))
-        (pickOn (now (t .entry)) (now (plans .entry)) (now (ends .entry))
-        (runIn (now (run .entry))) member)) ⌝ }
+    ensures { λ r. ⌜ RunCall
+        (pickNumbered (now (t .entry)) (now (plans .entry)) (now (ends .entry))
+        (runIn (now (run .entry))) member)
+        (now (run .entry)) (now (out .entry)) (call r (now (out .exit))) (now (run .exit)) ⌝ }
 {
-    if run.len() < RUN_WORDS {
+    if capi_run::no_run(run) {
         return SHORT;
     }
     if out.len() < 1 {
         return SHORT;
     }
-    let p = run_dispatch::once(t, plans, ends, capi_numbers::run_of(run), member);
-    let a = p.answer;
-    let r = p.run;
-    match a {
-        Answer::Refused(k) => k,
-        Answer::Gives(x) => {
-            let n = capi_numbers::reply_number(x);
-            capi_numbers::done(run, r, out, n)
-        }
+    let p = run_dispatch::once(t, plans, ends, capi_run::run_of(run), member);
+    capi_run::tell_dispatched(run, p, out)
+}
+
+#[no_mangle]
+pub extern "C" fn lawcheck_ask(
+    t: &[u64],
+    plans: &[u16],
+    ends: &[u64],
+    run: &[u64],
+    member: u8,
+    out: &mut [u64],
+) -> u64
+    ensures { λ r. ⌜ call r (now (out .exit))
+        ≡ called (noRun (now (run .entry)) || ltb (length (now (out .entry))) 4)
+        numbers.asked (now (out .entry))
+        (askOn (now (t .entry)) (now (plans .entry)) (now (ends .entry))
+        (runIn (now (run .entry))) member) ⌝ }
+{
+    if capi_run::no_run(run) {
+        return SHORT;
     }
+    if out.len() < 4 {
+        return SHORT;
+    }
+    let a = run_ticket::ask(t, plans, ends, capi_run::run_of(run), member);
+    capi_run::tell_asked(a, out)
+}
+
+#[no_mangle]
+pub extern "C" fn lawcheck_commit(
+    t: &[u64],
+    plans: &[u16],
+    ends: &[u64],
+    run: &mut [u64],
+    member: u8,
+    change: u32,
+    out: &mut [u64],
+) -> u64
+    ensures { λ r. ⌜ RunCall
+        (commitOn (now (t .entry)) (now (plans .entry)) (now (ends .entry))
+        (runIn (now (run .entry))) (record { member = member; change = change }))
+        (now (run .entry)) (now (out .entry)) (call r (now (out .exit))) (now (run .exit)) ⌝ }
+{
+    if capi_run::no_run(run) {
+        return SHORT;
+    }
+    if out.len() < 1 {
+        return SHORT;
+    }
+    let ticket = Ticket {
+        member: member,
+        change: change,
+    };
+    let p = run_dispatch::commit_once(t, plans, ends, capi_run::run_of(run), ticket);
+    capi_run::tell_dispatched(run, p, out)
 }
 
 // ---- the start of a run, and a list of picks on it
@@ -208,7 +245,7 @@ pub extern "C" fn lawcheck_pick(
 pub extern "C" fn lawcheck_start(t: &[u64], run: &mut [u64]) -> u64
     ensures { λ r. ⌜ StartCall (now (t .entry)) (now (run .entry)) r (now (run .exit)) ⌝ }
 {
-    if run.len() < RUN_WORDS {
+    if run.len() < capi_run::RUN_WORDS {
         return SHORT;
     }
     let s = run_dispatch::start(t);
@@ -216,7 +253,7 @@ pub extern "C" fn lawcheck_start(t: &[u64], run: &mut [u64]) -> u64
     if e != 0 {
         return e;
     }
-    let w = capi_numbers::words_of(s.run);
+    let w = capi_run::words_of(s.run);
     capi_numbers::put(run, &w);
     0
 }
@@ -234,15 +271,15 @@ pub extern "C" fn lawcheck_play(
         (now (run .entry))
         (now (picks .entry)) (now (answers .entry)) r (now (run .exit)) (now (answers .exit)) ⌝ }
 {
-    if run.len() < RUN_WORDS {
+    if capi_run::no_run(run) {
         return SHORT;
     }
-    let p = run_play::play(t, plans, ends, capi_numbers::run_of(run), picks, answers);
+    let p = run_play::play(t, plans, ends, capi_run::run_of(run), picks, answers);
     let e = p.refusal;
     if e != 0 {
         return e;
     }
-    let w = capi_numbers::words_of(p.run);
+    let w = capi_run::words_of(p.run);
     capi_numbers::put(run, &w);
     0
 }

@@ -1,11 +1,12 @@
 -- The numbers that each answer writes to `out`; a number that an answer does not have is 0.
-use mathlib.Core.List.{List, [], _∷_}
+use mathlib.Core.List.{List, [], _∷_, _++_}
 use Prim.Native.Nat.{ℕ}
 use Rattle.semantics.specs.Base.{_if_}
 use Rattle.semantics.specs.Step.{Decision}
 use Rattle.semantics.specs.Solo.{Solo, solves, breaks, short, Searched}
 use Rattle.semantics.specs.PddlWrite.{Lengths}
 use Rattle.semantics.specs.Run.{Fault, Reply, Replied, Outcome, success, failure, still-open, Replay}
+use Rattle.semantics.specs.Dispatch.{Numbered, Asked}
 use Rattle.semantics.specs.Verdict.{Verdict, unsolvable, notRobust, robust, Failing}
 
 -- 0 go, 1 wait, 2 collision; the new shared copy
@@ -40,8 +41,12 @@ abbrev pub reply : Reply → ℕ
 reply Reply.goes = 0
 reply Reply.collides = 1
 
-abbrev pub picked : Replied ℕ → List ℕ
+abbrev pub picked : Replied (Numbered ℕ) → List ℕ
 picked p = reply (p .reply) ∷ []
+
+-- as a step's decision; the ticket's member; the ticket's change number
+abbrev pub asked : Asked ℕ → List ℕ
+asked a = decision (a .decision) ++ (a .ticket .member ∷ a .ticket .change ∷ [])
 
 -- 0 robust, 1 unsolvable, 2 collision, 3 deadlock, 4 missed; member; number
 abbrev pub failing : Fault → ℕ → List ℕ

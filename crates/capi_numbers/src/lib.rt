@@ -1,5 +1,5 @@
-// The C interface's numbers: what each answer is as numbers, a run as words, and numbers put to the
-// front of a slice.
+// The C interface's numbers: what each answer is as numbers, and numbers put to the front of a
+// slice.
 ghost use mathlib.Core.Path.{_≡_};
 ghost use mathlib.Core.List.{[], _∷_};
 ghost use Prim.Native.Nat.{_≤_};
@@ -7,20 +7,15 @@ ghost use lib.ListN.{length};
 ghost use Rattle.semantics.specs.Base.{front};
 ghost use Rattle.step.specs.Value.{decisionOf};
 ghost use Rattle.solo_replay.specs.Value.{soloOf};
-ghost use Rattle.run_pick.specs.Value.{closedOf, runOf, replyOf, outcomeOf};
+ghost use Rattle.run_outcome.specs.Value.{outcomeOf};
 ghost use Rattle.fault.specs.Value.{faultOf, verdictOf, answerOf};
 ghost use Rattle.capi_numbers.specs.Call.{call, told};
 ghost use Rattle.capi_numbers.specs.Numbers as numbers;
-ghost use Rattle.capi_numbers.specs.Runs.{runWords, closedIn, closedWord, runIn, wordsOf};
 use fault::Failing;
 use fault::Fault;
 use fault::Verdict;
 use fault::VerdictAnswer;
-use mask::Shared;
-use run_pick::Closed;
-use run_pick::Outcome;
-use run_pick::Reply;
-use run_pick::Run;
+use run_outcome::Outcome;
 use solo_replay::Solo;
 use step::Decision;
 
@@ -68,84 +63,6 @@ pub fn replay_numbers(o: Outcome, k: u64, g: u64) -> [u64; 4]
         },
         Outcome::Open => [4, 0, k, g],
     }
-}
-
-pub fn reply_number(r: Reply) -> u64
-    ensures { λ n. ⌜ n ≡ numbers.reply (replyOf r) ⌝ }
-{
-    match r {
-        Reply::Go => 0,
-        Reply::Collision => 1,
-    }
-}
-
-// What the first word of a run says.
-fn closed_in(word: u64) -> Closed
-    ensures { λ r. ⌜ closedOf r ≡ closedIn word ⌝ }
-{
-    if word == 0 {
-        return Closed::NotYet;
-    }
-    Closed::By(Fault::Collision)
-}
-
-fn closed_word(c: Closed) -> u64
-    ensures { λ r. ⌜ r ≡ closedWord (closedOf c) ⌝ }
-{
-    match c {
-        Closed::NotYet => 0,
-        Closed::By(_) => 1,
-    }
-}
-
-// The run that the words hold.
-pub fn run_of(words: &[u64]) -> Run
-    requires { ⌜ runWords ≤ length (now words) ⌝ }
-    ensures { λ r. ⌜ runOf r ≡ runIn (now (words .entry)) ⌝ }
-{
-    let g = Shared(mask::of_word(words[9]));
-    let places = [
-        words[1],
-        words[2],
-        words[3],
-        words[4],
-        words[5],
-        words[6],
-        words[7],
-        words[8],
-    ];
-    let closed = closed_in(words[0]);
-    Run {
-        shared: g,
-        places: places,
-        closed: closed,
-    }
-}
-
-// The words of a run.
-pub fn words_of(r: Run) -> [u64; 10]
-    ensures { λ w. ⌜ w ≡ wordsOf (runOf r) ⌝ }
-{
-    let p = r.places;
-    let g = r.shared;
-    let closed = r.closed;
-    let c = closed_word(closed);
-    let w = mask::to_word(g.0);
-    [c, p[0], p[1], p[2], p[3], p[4], p[5], p[6], p[7], w]
-}
-
-// The run after a pick that was done, and the pick's number.
-pub fn done(words: &mut [u64], r: Run, out: &mut [u64], number: u64) -> u64
-    requires { ⌜ runWords ≤ length (now words) ⌝ }
-    requires { ⌜ 1 ≤ length (now out) ⌝ }
-    ensures { λ c. ⌜ call c (now (out .exit)) ≡ call 0 (front (number ∷ []) (now (out .entry))) ⌝ }
-    ensures { λ _. ⌜ now (words .exit) ≡ front (wordsOf (runOf r)) (now (words .entry)) ⌝ }
-{
-    let w = words_of(r);
-    put(words, &w);
-    let numbers = [number];
-    put(out, &numbers);
-    0
 }
 
 // The numbers of a verdict that is no refusal.

@@ -36,22 +36,22 @@ use denote.Struct.Laws as LL
 use denote.Triple.Statement.{Contract}
 use denote.Triple.Clauses.{ensured, lasts}
 use denote.Triple.Spec.{tripleOf}
-use Rattle.semantics.specs.Run.{pickOn}
-use Rattle.run_pick.specs.Value.{runOf, PickMeans}
-use Rattle.run_pick.specs.declared.Run.{Run}
+use Rattle.semantics.specs.Dispatch.{pickNumbered}
+use Rattle.run_ticket.specs.Value.{numberedOf, DispatchMeans}
+use Rattle.run_ticket.specs.declared.Numbered.{Numbered}
 use Rattle.run_pick.specs.declared.Answer.{Answer}
-use Rattle.run_pick.specs.declared.Picked.{Picked}
-use Rattle.run_pick.proofs.Run as T
-use Rattle.run_pick.proofs.Run.Laws as T′
+use Rattle.run_ticket.specs.declared.Dispatched.{Dispatched}
+use Rattle.run_ticket.proofs.Numbered as T
+use Rattle.run_ticket.proofs.Numbered.Laws as T′
 use Rattle.run_pick.proofs.Answer as N
 use Rattle.run_dispatch.specs.Value.{LentMeans}
 use Rattle.run_dispatch.proofs.Machine.{mach, Cell, sliced, Task, Plans, Ends}
 use Rattle.run_dispatch.proofs.pick as f
 
 -- what is known of the answer at the machine value v, with the next run
-abbrev pub Met : RefT (List ℕ) → RefT (List ℕ) → RefT (List ℕ) → Run → ℕ → Val → Picked → Type 0
+abbrev pub Met : RefT (List ℕ) → RefT (List ℕ) → RefT (List ℕ) → Numbered → ℕ → Val → Dispatched → Type 0
 Met s₀ s₁ s₂ h n v p =
-    PickMeans (pickOn (now s₀) (now s₁) (now s₂) (runOf h) n) h p
+    DispatchMeans (pickNumbered (now s₀) (now s₁) (now s₂) (numberedOf h) n) h p
     × Is N.the-row (p .answer) (v ∷ [])
     × Is T.the-row (p .run) (mach (p .run) ∷ [])
 
@@ -59,8 +59,8 @@ module _ {M : Type 1} (𝓤 : URA M) (H : Heap 𝓤) (A : Atoms 𝓤) (at-mem : 
   abbrev pub Pick : Contract 𝓤
   Pick = tripleOf 𝓤 H A f.signature (f.spec 𝓤 H A at-mem run)
 
-  module _ (κ₀ κ₁ κ₂ : Lft) (q₀ q₁ q₂ : Share) (s₀ s₁ s₂ : RefT (List ℕ)) (b : ℕ) (h : Run) (n : ℕ) where
-    abbrev args : GName → RefT (List ℕ) × (RefT (List ℕ) × (RefT (List ℕ) × (RefT Run × (ℕ × Unit {0}))))
+  module _ (κ₀ κ₁ κ₂ : Lft) (q₀ q₁ q₂ : Share) (s₀ s₁ s₂ : RefT (List ℕ)) (b : ℕ) (h : Numbered) (n : ℕ) where
+    abbrev args : GName → RefT (List ℕ) × (RefT (List ℕ) × (RefT (List ℕ) × (RefT Numbered × (ℕ × Unit {0}))))
     args δ = (s₀, (s₁, (s₂, (record { ptr = (b, 0); name = δ; now = h }, (n, tt)))))
 
     abbrev pub to : ℕ → GName → Pick .Ghost
@@ -113,7 +113,7 @@ module _ {M : Type 1} (𝓤 : URA M) (H : Heap 𝓤) (A : Atoms 𝓤) (at-mem : 
           (1 ∷ 0 ∷ []) $ join ! $ frame ! $ done !))
 
       pub takes-back : (α : ℕ) (δ : GName) (v : Val) → ent 𝓤 (sep 𝓤 (Pick .post (to α δ) v) (sem 𝓤 H A (Aside α δ)))
-          (H .⇛ (ex 𝓤 (λ (p : Picked). guard 𝓤 (Met s₀ s₁ s₂ h n v p)
+          (H .⇛ (ex 𝓤 (λ (p : Dispatched). guard 𝓤 (Met s₀ s₁ s₂ h n v p)
           (sep 𝓤 (sem 𝓤 H A (Cell b (p .run))) (sep 𝓤 (A .lft κ₀ q₀) (sep 𝓤 (A .lft κ₁ q₁) (A .lft κ₂ q₂)))))))
       unfolding partOf
       takes-back α δ v =
@@ -125,13 +125,13 @@ module _ {M : Type 1} (𝓤 : URA M) (H : Heap 𝓤) (A : Atoms 𝓤) (at-mem : 
           (id⊢ 𝓤 _) $ await ! tt $ pick ! (λ r.
           split ! $ move ! (1 ∷ []) $
           use1 W (some
-          (λ (ws : Unit {0} × (Unit {0} × (Unit {0} × (Run × (Unit {0} × Unit {0}))))). ‵
+          (λ (ws : Unit {0} × (Unit {0} × (Unit {0} × (Numbered × (Unit {0} × Unit {0}))))). ‵
           (lasts f.ended (κ₀, (κ₁, (κ₂, (α ∷ [], tt)))) (args δ) ws)
-          ⊛ raw (fact 𝓤 (LentMeans (pickOn (now s₀) (now s₁) (now s₂) (runOf h) n) h r (ws .1 .1 .1 .0)))))
+          ⊛ raw (fact 𝓤 (LentMeans (pickNumbered (now s₀) (now s₁) (now s₂) (numberedOf h) n) h r (ws .1 .1 .1 .0)))))
           (id⊢ 𝓤 _) $ pick ! (λ ws.
           split ! $ move ! (1 ∷ []) $ heard !
-          (LentMeans (pickOn (now s₀) (now s₁) (now s₂) (runOf h) n) h r (ws .1 .1 .1 .0)) (λ m.
-          let p : Picked = record { answer = r; run = ws .1 .1 .1 .0 } in
+          (LentMeans (pickNumbered (now s₀) (now s₁) (now s₂) (numberedOf h) n) h r (ws .1 .1 .1 .0)) (λ m.
+          let p : Dispatched = record { answer = r; run = ws .1 .1 .1 .0 } in
           fsplit ! $ drop ! $ fsplit ! $ drop ! $ fsplit ! $ drop ! $ fsplit ! $
           -- [the last run; true; the tokens and the answer; the lender's part]
           move ! (2 ∷ []) $ split ! $ split ! $ move ! (1 ∷ []) $ split ! $ move ! (1 ∷ []) $ split ! $ move !
@@ -149,7 +149,7 @@ module _ {M : Type 1} (𝓤 : URA M) (H : Heap 𝓤) (A : Atoms 𝓤) (at-mem : 
           suffices !
           (guard 𝓤 (Met s₀ s₁ s₂ h n v p)
           (sep 𝓤 (sem 𝓤 H A (Cell b (p .run))) (sep 𝓤 (A .lft κ₀ q₀) (sep 𝓤 (A .lft κ₁ q₁) (A .lft κ₂ q₂)))))
-          (exI 𝓤 (λ (p′ : Picked). guard 𝓤 (Met s₀ s₁ s₂ h n v p′)
+          (exI 𝓤 (λ (p′ : Dispatched). guard 𝓤 (Met s₀ s₁ s₂ h n v p′)
           (sep 𝓤 (sem 𝓤 H A (Cell b (p′ .run))) (sep 𝓤 (A .lft κ₀ q₀) (sep 𝓤 (A .lft κ₁ q₁) (A .lft κ₂ q₂))))) p) $
           check ! (record { answer = m .answers; after = m .leaves }, ia, ir) $ keep !
           (0 ∷ 4 ∷ 3 ∷ 2 ∷ []) $ done !))))))

@@ -2,3 +2,4 @@
 mod Laws
 mod Machine
 pub mod Lent
+pub mod LentCommit

@@ -1,4 +1,4 @@
--- The machine values of a run and of the three slices, and what the slices own.
+-- The machine values of a run, of a ticket and of the three slices, and what the slices own.
 use Prim.Native.Nat.{ℕ}
 use mathlib.Core.List.{[], _∷_, List}
 use lib.ListN.{length}
@@ -10,14 +10,20 @@ use denote.Builtin.{u16, u64}
 use denote.Ref.{RefT}
 use denote.Slice.{sliceVal, ShrSlice}
 use denote.Struct.Laws as LL
-use Rattle.run_pick.specs.declared.Run.{Run}
-use Rattle.run_pick.proofs.Run as T
-use Rattle.run_pick.proofs.Run.Laws as T′
+use Rattle.run_ticket.specs.declared.Numbered.{Numbered}
+use Rattle.run_ticket.specs.declared.Ticket.{Ticket}
+use Rattle.run_ticket.proofs.Numbered as T
+use Rattle.run_ticket.proofs.Numbered.Laws as T′
+use Rattle.run_ticket.proofs.Ticket as K
+use Rattle.run_ticket.proofs.Ticket.Laws as K′
 
-abbrev pub mach : Run → Val
+abbrev pub mach : Numbered → Val
 mach d = LL.val T.the-type T′.the-laws d
 
-abbrev pub Cell : ℕ → Run → Fml
+abbrev pub machTicket : Ticket → Val
+machTicket k = LL.val K.the-type K′.the-laws k
+
+abbrev pub Cell : ℕ → Numbered → Fml
 Cell b h = fat fullShare T′.mir b 0 (mach h)
 
 abbrev pub sliced : RefT (List ℕ) → Val

@@ -16,11 +16,6 @@ use Rattle.run_pick.specs.declared.Reply.the-variants as reply
 use Rattle.run_pick.specs.declared.Answer.{Answer}
 use Rattle.run_pick.specs.declared.Answer.the-variants as answer
 use Rattle.run_pick.specs.declared.Picked.{Picked}
-use Rattle.run_pick.specs.declared.Outcome.{Outcome}
-use Rattle.run_pick.specs.declared.Outcome.the-variants as outcome
-use Rattle.run_pick.specs.declared.Replay.{Replay}
-use Rattle.run_pick.specs.declared.ReplayAnswer.{ReplayAnswer}
-use Rattle.run_pick.specs.declared.ReplayAnswer.the-variants as replayed
 
 abbrev pub closedOf : Closed → Paper.Closed
 closedOf closed.NotYet = Paper.not-yet
@@ -41,25 +36,16 @@ answerOf (answer.Refused k) = refused k
 answerOf (answer.Gives r) = gives (replyOf r)
 
 -- a pick's reply, without the run after it
-abbrev pub replies : Base.Answer (Paper.Replied ℕ) → Base.Answer Paper.Reply
+abbrev pub replies : {R : Type 0} → Base.Answer (Paper.Replied R) → Base.Answer Paper.Reply
 replies (refused k) = refused k
 replies (gives p) = gives (p .reply)
 
+-- an answer with the run after it
+abbrev pub answerWith : {R : Type 0} → Answer → R → Base.Answer (Paper.Replied R)
+answerWith (answer.Refused k) r = refused k
+answerWith (answer.Gives x) r = gives (record { reply = replyOf x; run = r })
+
 -- the answer, and the run after it: as it was where the pick is refused
-pub record PickMeans (meaning : Base.Answer (Paper.Replied ℕ)) (run : Run) (p : Picked) : Type 0 where
+pub record PickMeans (meaning : Base.Answer (Paper.Replied (Paper.Run ℕ))) (run : Run) (p : Picked) : Type 0 where
   pub answer : answerOf (p .answer) ≡ replies meaning
   pub after : runOf (p .run) ≡ passOver (runOf run) meaning
-
--- ---- outcomes and joint replay
-
-abbrev pub outcomeOf : Outcome → Paper.Outcome
-outcomeOf outcome.Success = Paper.success
-outcomeOf (outcome.Failure f) = Paper.failure (faultOf f)
-outcomeOf outcome.Open = Paper.still-open
-
-abbrev pub replayOf : Replay → Paper.Replay ℕ
-replayOf r = record { outcome = outcomeOf (r .outcome); shared = sharedNumber (r .shared); picked = r .picked }
-
-abbrev pub replayedOf : ReplayAnswer → Base.Answer (Paper.Replay ℕ)
-replayedOf (replayed.Refused k) = refused k
-replayedOf (replayed.Gives r) = gives (replayOf r)

@@ -16,7 +16,7 @@ use Rattle.semantics.specs.Solo.{entry, soloFrom}
 use Rattle.semantics.specs.Run.{beginning, planOf, endsFit, isSolves, planRefusal, plansRefusal}
 use Rattle.theory.proofs.Lists.{and-elim, all-true, mem-upTo, mem-getD}
 use Rattle.theory.proofs.Loops.{Rest, rest-begin, all-fails, all-onward, all-ends}
-use Rattle.theory.proofs.Refusals.{else-both, if-not-true, upTo-refusal}
+use Rattle.theory.proofs.Refusals.{else-both, if-not-true, upTo-refusal, else-first}
 use Rattle.theory.proofs.Agrees.Solo.{entries-own}
 use Rattle.solo_replay.specs.Value.{soloOf}
 use Rattle.solo_replay.specs.declared.Solo.{Solo}
@@ -137,11 +137,7 @@ module _ (t : List ℕ) (j : ℕ) (plan : List ℕ) (e : ℕ) (k : e ≡ firstRe
 module _ (t plans ends : List ℕ) (e : ℕ) (k : e ≡ check t) where
   pub refuses-task : (e ≡ 0 → ⊥) → e ≡ plansRefusal t plans ends
   unfolding plansRefusal
-  refuses-task h = at e k h
-    where
-      at : (e : ℕ) → e ≡ check t → (e ≡ 0 → ⊥) → e ≡ plansRefusal t plans ends
-      at zero k h = absurd (h refl)
-      at (suc e) k h = rw (← k)
+  refuses-task h = k ∙ else-first (check t) _ (λ z. h (k ∙ z))
 
   module _ (h : e ≡ 0) (n : ℕ) (k₁ : n ≡ members t) (b : Bool) (k₂ : b ≡ endsFit n plans ends) where
     pub refuses-ends : not b ≡ true → 11 ≡ plansRefusal t plans ends

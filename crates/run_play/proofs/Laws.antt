@@ -8,10 +8,12 @@ use lib.ListN.{length, getD, drop, set, drop-of-length-le, length-append, length
 use lib.Seq.{drop-cons, set-out}
 use borrow.Author.Tests.{lt-ltb, le-ltb}
 use Rattle.semantics.specs.Base.{_leaves_otherwise_}
-use Rattle.semantics.specs.Run.{play, runRefusal}
-use Rattle.run_pick.specs.Value.{runOf, answerOf, replies, PickMeans}
-use Rattle.run_pick.specs.declared.Run.{Run}
-use Rattle.run_pick.specs.declared.Picked.{Picked}
+use Rattle.semantics.specs.Run.{runRefusal}
+use Rattle.semantics.specs.Dispatch.{playNumbered}
+use Rattle.run_pick.specs.Value.{runOf, answerOf, replies}
+use Rattle.run_ticket.specs.Value.{numberedOf, DispatchMeans}
+use Rattle.run_ticket.specs.declared.Numbered.{Numbered}
+use Rattle.run_ticket.specs.declared.Dispatched.{Dispatched}
 use Rattle.run_play.specs.Value.{numberIn, over, pickFrom, playFrom, told, playRefusal, answered, PlayMeans}
 use Rattle.run_play.specs.Inner.Play.{AllMean}
 use Rattle.run_play.specs.declared.Played.{Played}
@@ -32,32 +34,32 @@ over-more (x ∷ xs) (y ∷ ys) v = ap (λ (l : List ℕ). x ∷ l) (over-more x
 -- ---- all picks
 
 -- k of the picks are done and answered
-pub record Playing (t plans ends picks before : List ℕ) (first run : Run) (answers : List ℕ) (k : ℕ) : Type 0 where
+pub record Playing (t plans ends picks before : List ℕ) (first run : Numbered) (answers : List ℕ) (k : ℕ) : Type 0 where
   pub most : k ≤ length picks
-  pub rest : playFrom t plans ends (runOf first) picks ≡ playFrom t plans ends (runOf run) (drop k picks)
+  pub rest : playFrom t plans ends (numberedOf first) picks ≡ playFrom t plans ends (numberedOf run) (drop k picks)
   pub done : List ℕ
   pub many : length done ≡ k
-  pub tells : told t plans ends (runOf first) picks ≡ done ++ told t plans ends (runOf run) (drop k picks)
+  pub tells : told t plans ends (numberedOf first) picks ≡ done ++ told t plans ends (numberedOf run) (drop k picks)
   pub holds : answers ≡ over done before
   pub same : length answers ≡ length before
 
-module _ (t plans ends picks before : List ℕ) (first : Run) where
+module _ (t plans ends picks before : List ℕ) (first : Numbered) where
   pub playing-starts : Playing t plans ends picks before first first before 0
   unfolding over
   playing-starts =
       record { most = omega arith; rest = refl; done = []; many = refl; tells = refl; holds = refl; same = refl }
 
-  module _ (run : Run) (answers : List ℕ) (k : ℕ) (r : Playing t plans ends picks before first run answers k) where
-    pub playing-picks : k < length picks → (p : Picked)
-        → PickMeans (pickFrom t plans ends (runOf run) (getD picks k 0)) run p
+  module _ (run : Numbered) (answers : List ℕ) (k : ℕ) (r : Playing t plans ends picks before first run answers k) where
+    pub playing-picks : k < length picks → (p : Dispatched)
+        → DispatchMeans (pickFrom t plans ends (numberedOf run) (getD picks k 0)) run p
         → (v : ℕ) → v ≡ numberIn (answerOf (p .answer)) → (after : List ℕ) → after ≡ set answers k v
         → Playing t plans ends picks before first (p .run) after (k + 1)
-    unfolding play told
+    unfolding playNumbered told
     playing-picks h p m v e after put =
         let j = getD picks k 0 in
-        let next = told t plans ends (runOf (p .run)) (drop (suc k) picks) in
-        let number : v ≡ numberIn (replies (pickFrom t plans ends (runOf run) j)) = e ∙ ap numberIn (m .answer) in
-        let step : told t plans ends (runOf run) (drop k picks) ≡ v ∷ next =
+        let next = told t plans ends (numberedOf (p .run)) (drop (suc k) picks) in
+        let number : v ≡ numberIn (replies (pickFrom t plans ends (numberedOf run) j)) = e ∙ ap numberIn (m .answer) in
+        let step : told t plans ends (numberedOf run) (drop k picks) ≡ v ∷ next =
         rw (drop-cons picks k 0 h, m .after, number) in
         record {
           most = omega arith;
@@ -77,14 +79,14 @@ module _ (t plans ends picks before : List ℕ) (first : Run) where
           same = ap length put ∙ length-set answers k v ∙ r .same;
         }
 
-    pub playing-ends : length picks ≤ k → AllMean t plans ends (runOf first) picks before run answers
-    unfolding play told
+    pub playing-ends : length picks ≤ k → AllMean t plans ends (numberedOf first) picks before run answers
+    unfolding playNumbered told
     playing-ends h =
         let none : drop k picks ≡ [] = drop-of-length-le picks h in
-        let all : told t plans ends (runOf first) picks ≡ r .done =
-        r .tells ∙ ap (λ (l : List ℕ). r .done ++ told t plans ends (runOf run) l) none ∙ append-nil (r .done) in
+        let all : told t plans ends (numberedOf first) picks ≡ r .done =
+        r .tells ∙ ap (λ (l : List ℕ). r .done ++ told t plans ends (numberedOf run) l) none ∙ append-nil (r .done) in
         record {
-          played = sym (r .rest ∙ ap (playFrom t plans ends (runOf run)) none);
+          played = sym (r .rest ∙ ap (playFrom t plans ends (numberedOf run)) none);
           answers = r .holds ∙ ap (λ (l : List ℕ). over l before) (sym all);
         }
 
@@ -98,42 +100,42 @@ pub leaves-some : {A : Type 0} (r : ℕ) (x y : A) → (r ≡ 0 → ⊥) → x �
 leaves-some zero x y h = absurd (h refl)
 leaves-some (suc r) x y h = refl
 
-module _ (t plans ends picks before : List ℕ) (run : Run) where
+module _ (t plans ends picks before : List ℕ) (run : Numbered) where
   abbrev Means : ℕ → Played → List ℕ → Type 0
-  Means refuses p after = PlayMeans t plans ends refuses (runOf run) picks before p after
+  Means refuses p after = PlayMeans t plans ends refuses (numberedOf run) picks before p after
 
   as-it-was : (refuses e : ℕ) → e ≡ refuses → (e ≡ 0 → ⊥) → Means refuses (record { refusal = e; run = run }) before
   as-it-was refuses e is h =
       let some : refuses ≡ 0 → ⊥ = λ z. h (is ∙ z) in
       record {
         refusal = is;
-        run = leaves-some refuses (runOf run) (playFrom t plans ends (runOf run) picks) some;
-        answers = leaves-some refuses before (answered t plans ends (runOf run) picks before) some;
+        run = leaves-some refuses (numberedOf run) (playFrom t plans ends (numberedOf run) picks) some;
+        answers = leaves-some refuses before (answered t plans ends (numberedOf run) picks before) some;
       }
 
-  module _ (e : ℕ) (is : e ≡ runRefusal t plans ends (runOf run)) where
+  module _ (e : ℕ) (is : e ≡ runRefusal t plans ends (runOf (run .run))) where
     pub into-refused : (e ≡ 0 → ⊥)
-        → Means (runRefusal t plans ends (runOf run)) (record { refusal = e; run = run }) before
-    into-refused h = as-it-was (runRefusal t plans ends (runOf run)) e is h
+        → Means (runRefusal t plans ends (runOf (run .run))) (record { refusal = e; run = run }) before
+    into-refused h = as-it-was (runRefusal t plans ends (runOf (run .run))) e is h
 
-    pub into-given : e ≡ 0 → (last : Run) (after : List ℕ) → AllMean t plans ends (runOf run) picks before last after
-        → Means (runRefusal t plans ends (runOf run)) (record { refusal = 0; run = last }) after
+    pub into-given : e ≡ 0 → (last : Numbered) (after : List ℕ) → AllMean t plans ends (numberedOf run) picks before last after
+        → Means (runRefusal t plans ends (runOf (run .run))) (record { refusal = 0; run = last }) after
     into-given z last after m =
-        let refuses = runRefusal t plans ends (runOf run) in
+        let refuses = runRefusal t plans ends (runOf (run .run)) in
         let none : refuses ≡ 0 = sym is ∙ z in
         record {
           refusal = sym none;
-          run = m .played ∙ leaves-none refuses (runOf run) (playFrom t plans ends (runOf run) picks) none;
-          answers = m .answers ∙ leaves-none refuses before (answered t plans ends (runOf run) picks before) none;
+          run = m .played ∙ leaves-none refuses (numberedOf run) (playFrom t plans ends (numberedOf run) picks) none;
+          answers = m .answers ∙ leaves-none refuses before (answered t plans ends (numberedOf run) picks before) none;
         }
 
   pub play-short : length before < length picks
-      → Means (playRefusal t plans ends (runOf run) picks before) (record { refusal = 14; run = run }) before
+      → Means (playRefusal t plans ends (numberedOf run) picks before) (record { refusal = 14; run = run }) before
   play-short h =
-      as-it-was (playRefusal t plans ends (runOf run) picks before) 14
+      as-it-was (playRefusal t plans ends (numberedOf run) picks before) 14
       (rw (lt-ltb (length before) (length picks) h)) (λ z. omega arith)
 
   pub play-fits : length picks ≤ length before → (p : Played) (after : List ℕ)
-      → Means (runRefusal t plans ends (runOf run)) p after
-      → Means (playRefusal t plans ends (runOf run) picks before) p after
+      → Means (runRefusal t plans ends (runOf (run .run))) p after
+      → Means (playRefusal t plans ends (numberedOf run) picks before) p after
   play-fits h p after m = rw (le-ltb (length before) (length picks) h) m

@@ -9,9 +9,10 @@ use Rattle.semantics.specs.Base.{_if_, _else_, refused, gives, _leaves_otherwis
 use Rattle.semantics.specs.Task.{members}
 use Rattle.semantics.specs.System.{system, waits}
 use Rattle.semantics.specs.Run as Paper
-use Rattle.semantics.specs.Run.{passOver, pick, play, plansOf, runRefusal}
-use Rattle.run_pick.specs.Value.{runOf, replies}
-use Rattle.run_pick.specs.declared.Run.{Run}
+use Rattle.semantics.specs.Run.{passOver, pick, plansOf, runRefusal}
+use Rattle.semantics.specs.Dispatch.{Numbered, counts, playNumbered}
+use Rattle.run_pick.specs.Value.{replies}
+use Rattle.run_ticket.specs.Value.{numberedOf}
 use Rattle.run_play.specs.declared.Played.{Played}
 
 -- a pick's answer as a number: 0 go, 1 collision, else the refusal
@@ -27,28 +28,28 @@ over (x ∷ xs) [] = []
 over (x ∷ xs) (y ∷ ys) = x ∷ over xs ys
 
 module _ (t plans ends : List ℕ) where
-  abbrev pub pickFrom : Paper.Run ℕ → ℕ → Base.Answer (Paper.Replied ℕ)
-  pickFrom r j = pick (system t) (waits t) (plansOf (members t) plans ends) r j
+  abbrev pub pickFrom : Numbered ℕ → ℕ → Base.Answer (Paper.Replied (Numbered ℕ))
+  pickFrom d j = counts d (pick (system t) (waits t) (plansOf (members t) plans ends) (d .run) j)
 
-  abbrev pub playFrom : Paper.Run ℕ → List ℕ → Paper.Run ℕ
-  playFrom r picks = play (system t) (waits t) (plansOf (members t) plans ends) r picks
+  abbrev pub playFrom : Numbered ℕ → List ℕ → Numbered ℕ
+  playFrom d picks = playNumbered (system t) (waits t) (plansOf (members t) plans ends) d picks
 
   -- what each pick answers, where the last one left the run
-  unfoldable pub told : Paper.Run ℕ → List ℕ → List ℕ
-  told r [] = []
-  told r (j ∷ js) = numberIn (replies (pickFrom r j)) ∷ told (passOver r (pickFrom r j)) js
+  unfoldable pub told : Numbered ℕ → List ℕ → List ℕ
+  told d [] = []
+  told d (j ∷ js) = numberIn (replies (pickFrom d j)) ∷ told (passOver d (pickFrom d j)) js
 
   -- 14 for fewer answers than picks; then the refusals of any run handed in
-  abbrev pub playRefusal : Paper.Run ℕ → List ℕ → List ℕ → ℕ
-  playRefusal r picks before = (14 if ltb (length before) (length picks)) else runRefusal t plans ends r
+  abbrev pub playRefusal : Numbered ℕ → List ℕ → List ℕ → ℕ
+  playRefusal d picks before = (14 if ltb (length before) (length picks)) else runRefusal t plans ends (d .run)
 
   -- the picks' answers at the front of the slice, the rest as it was
-  abbrev pub answered : Paper.Run ℕ → List ℕ → List ℕ → List ℕ
-  answered r picks before = over (told r picks) before
+  abbrev pub answered : Numbered ℕ → List ℕ → List ℕ → List ℕ
+  answered d picks before = over (told d picks) before
 
   -- refused with this number, where there is one: the run and the slice are then as they were
-  pub record PlayMeans (refuses : ℕ) (r : Paper.Run ℕ) (picks before : List ℕ) (p : Played)
+  pub record PlayMeans (refuses : ℕ) (d : Numbered ℕ) (picks before : List ℕ) (p : Played)
       (after : List ℕ) : Type 0 where
     pub refusal : p .refusal ≡ refuses
-    pub run : runOf (p .run) ≡ (refuses leaves (λ k. r) otherwise playFrom r picks)
-    pub answers : after ≡ (refuses leaves (λ k. before) otherwise answered r picks before)
+    pub run : numberedOf (p .run) ≡ (refuses leaves (λ k. d) otherwise playFrom d picks)
+    pub answers : after ≡ (refuses leaves (λ k. before) otherwise answered d picks before)

@@ -4,17 +4,18 @@ ghost use mathlib.Core.Path.{_≡_};
 ghost use lib.ListN.{set};
 ghost use Rattle.semantics.specs.Run.{plansRefusal, runRefusal};
 ghost use Rattle.run_pick.specs.Value.{runOf, answerOf};
+ghost use Rattle.run_ticket.specs.Value.{numberedOf};
 ghost use Rattle.run_play.specs.Value.{numberIn, playRefusal, PlayMeans};
 ghost use Rattle.run_play.specs.Inner.Play.{AllMean};
 use run_pick::Answer;
 use run_pick::Reply;
-use run_pick::Run;
+use run_ticket::Numbered;
 
 // The refusal, 0 where there is none, and the run after the picks: as it was where there is a
 // refusal.
 pub struct Played {
     pub refusal: u64,
-    pub run: Run,
+    pub run: Numbered,
 }
 
 // A pick's answer as a number: 0 go, 1 collision, else the refusal.
@@ -44,19 +45,19 @@ fn play_all(
     t: &[u64],
     plans: &[u16],
     ends: &[u64],
-    run: Run,
+    run: Numbered,
     picks: &[u8],
     answers: &mut [u64],
-) -> Run
+) -> Numbered
     requires { ⌜ plansRefusal (now t) (now plans) (now ends) ≡ 0 ⌝ }
-    ensures { λ r. ⌜ AllMean (now (t .entry)) (now (plans .entry)) (now (ends .entry)) (runOf run)
-        (now (picks .entry))
+    ensures { λ r. ⌜ AllMean (now (t .entry)) (now (plans .entry)) (now (ends .entry))
+        (numberedOf run) (now (picks .entry))
         (now (answers .entry)) r (now (answers .exit)) ⌝ }
 {
     let mut current = run;
     let mut k = 0;
     while k < picks.len() {
-        let p = run_pick::pick(t, plans, ends, current, picks[k] as usize);
+        let p = run_ticket::pick_checked(t, plans, ends, current, picks[k] as usize);
         let a = p.answer;
         put(answers, k, number(a));
         current = p.run;
@@ -71,15 +72,15 @@ pub fn play_into(
     t: &[u64],
     plans: &[u16],
     ends: &[u64],
-    run: Run,
+    run: Numbered,
     picks: &[u8],
     answers: &mut [u64],
 ) -> Played
     ensures { λ r. ⌜ PlayMeans (now (t .entry)) (now (plans .entry)) (now (ends .entry))
-        (runRefusal (now (t .entry)) (now (plans .entry)) (now (ends .entry)) (runOf run))
-        (runOf run) (now (picks .entry)) (now (answers .entry)) r (now (answers .exit)) ⌝ }
+        (runRefusal (now (t .entry)) (now (plans .entry)) (now (ends .entry)) (runOf (run .run)))
+        (numberedOf run) (now (picks .entry)) (now (answers .entry)) r (now (answers .exit)) ⌝ }
 {
-    let e = run_replay::refusal(t, plans, ends, run);
+    let e = run_replay::refusal(t, plans, ends, run.run);
     if e != 0 {
         return Played {
             refusal: e,
@@ -99,14 +100,14 @@ pub fn play(
     t: &[u64],
     plans: &[u16],
     ends: &[u64],
-    run: Run,
+    run: Numbered,
     picks: &[u8],
     answers: &mut [u64],
 ) -> Played
     ensures { λ r. ⌜ PlayMeans (now (t .entry)) (now (plans .entry)) (now (ends .entry))
-        (playRefusal (now (t .entry)) (now (plans .entry)) (now (ends .entry)) (runOf run)
+        (playRefusal (now (t .entry)) (now (plans .entry)) (now (ends .entry)) (numberedOf run)
         (now (picks .entry)) (now (answers .entry)))
-        (runOf run) (now (picks .entry)) (now (answers .entry)) r (now (answers .exit)) ⌝ }
+        (numberedOf run) (now (picks .entry)) (now (answers .entry)) r (now (answers .exit)) ⌝ }
 {
     if answers.len() < picks.len() {
         return Played {

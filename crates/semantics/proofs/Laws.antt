@@ -10,12 +10,13 @@ use Rattle.semantics.specs.Listing.{addNew, addAll, grow}
 use Rattle.semantics.specs.Solo.{soloFrom, soloNext, copies, leadingTo, liveOf, marksOf, ones, soloSearch}
 use Rattle.semantics.specs.Completion.{near, nearing, stepsIn, distance, completion}
 use Rattle.semantics.specs.Run.{start, rest, missedIn, pickStep, pick, pickable, stepsLeft, outcome, replayOn}
-use Rattle.semantics.specs.Run.{replay, endsFit, plansRefusal, jointReplay}
+use Rattle.semantics.specs.Run.{replay, endsFit, plansRefusal, jointReplay, pickOn}
+use Rattle.semantics.specs.Dispatch.{nextStep, pickNumbered, askOn, commitOn}
 use Rattle.semantics.specs.Verdict.{sameRow, moved, ready, moves, configurations, collides, stuck, blocked}
 use Rattle.semantics.specs.Verdict.{deadlocked, faults, leadsBy, actionTo, sourceOf, walkIn, colliding, waiting}
 use Rattle.semantics.specs.Verdict.{goesOn, lastPick, restAt, conflictBy, firstConflict, solvableElse, verdictIn}
 use Rattle.semantics.specs.Verdict.{verdict}
-use Rattle.semantics.proofs.Table.{table, further, searches, AllHold}
+use Rattle.semantics.proofs.Table.{table, further, searches, asks, commits, AllHold}
 
 pub laws-hold : AllHold table
 unfolding anyOf allOf collect flatten keep numbersFrom firstRefusal within after below headFits goalRow actionRow check
@@ -43,3 +44,15 @@ pub searches-hold : AllHold searches
 unfolding anyOf allOf collect keep numbersFrom firstRefusal within after below headFits goalRow actionRow check addNew
     addAll grow soloNext copies leadingTo liveOf marksOf ones soloSearch
 searches-hold = (refl, (refl, (refl, (refl, tt))))
+
+pub asks-hold : AllHold asks
+unfolding anyOf allOf numbersFrom firstRefusal within after below headFits goalRow actionRow check routine soloFrom rest
+    endsFit plansRefusal nextStep askOn
+asks-hold = (refl, (refl, (refl, (refl, (refl, (refl, (refl, (refl, (refl, (refl, tt))))))))))
+
+pub commits-hold : AllHold commits
+unfolding anyOf allOf numbersFrom firstRefusal within after below headFits goalRow actionRow check routine soloFrom rest
+    pickStep pick endsFit plansRefusal pickOn pickNumbered commitOn
+commits-hold =
+    let later : AllHold (drop 12 commits) = (refl, (refl, tt)) in
+    (refl, (refl, (refl, (refl, (refl, (refl, (refl, (refl, (refl, (refl, (refl, (refl, later))))))))))))

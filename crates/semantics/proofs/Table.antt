@@ -3,13 +3,14 @@ use mathlib.Core.Path.{_≡_}
 use mathlib.Core.Bool.{Bool, true, false}
 use mathlib.Core.List.{List, [], _∷_, _++_}
 use Prim.Native.Nat.{ℕ, _+_, _*_}
-use lib.ListN.{set, replicate}
+use lib.ListN.{getD, set, replicate}
 use Rattle.semantics.specs.Base.{Answer, refused, gives}
 use Rattle.semantics.specs.Task.{rowWidth, members, check}
 use Rattle.semantics.specs.Step.{Decision, go, wait, step}
 use Rattle.semantics.specs.Solo.{SoloSearch, refusedWith, soloSearch}
 use Rattle.semantics.specs.Run.{Fault, collision, deadlock, missed, Outcome, success, failure, still-open, Replay}
-use Rattle.semantics.specs.Run.{jointReplay}
+use Rattle.semantics.specs.Run.{Closed, not-yet, by, Reply, goes, collides, Replied, jointReplay}
+use Rattle.semantics.specs.Dispatch.{Numbered, lastChange, Ticket, Asked, pickNumbered, askOn, commitOn}
 use Rattle.semantics.specs.Verdict.{Verdict, unsolvable, notRobust, robust, Conflict, Room, lentOf, localRows}
 use Rattle.semantics.specs.Verdict.{configurationRows, verdict, listedIn}
 
@@ -107,9 +108,26 @@ allEnded = with 2 1 32 endedWaits
 
 -- ---- what the paper says of them
 
+-- L1's plans, and those of the laws that are L1 with words changed
+abbrev pub plansOfL1 : List ℕ
+plansOfL1 = 0 ∷ 1 ∷ 2 ∷ 3 ∷ []
+
+abbrev pub endsOfL1 : List ℕ
+endsOfL1 = 2 ∷ 4 ∷ []
+
+-- of a pick or a commit: its reply, and the shared copy and the change number after it
+pub record Told : Type 0 where
+  pub reply : Reply
+  pub shared : ℕ
+  pub change : ℕ
+
+abbrev pub toldOf : Answer (Replied (Numbered ℕ)) → Answer Told
+toldOf (refused k) = refused k
+toldOf (gives p) = gives (record { reply = p .reply; shared = p .run .run .shared; change = p .run .change })
+
 -- a row of the table: a law's verdict with so many local and configuration words, the other slices as long as asked; a
 -- replay's answer; the configurations that are listed; the task check's refusal; a step's answer; solo search in a
--- table of so many words, with as many marks
+-- table of so many words, with as many marks; an ask, a pick and a commit on a run with L1's plans
 pub data Claim : Type 0 where
   verdictOf : List ℕ → ℕ → ℕ → Answer (Verdict Conflict) → Claim
   replayOf : List ℕ → List ℕ → List ℕ → List ℕ → Answer (Replay ℕ) → Claim
@@ -117,6 +135,9 @@ pub data Claim : Type 0 where
   checkOf : List ℕ → ℕ → Claim
   stepOf : List ℕ → ℕ → ℕ → Answer (Decision ℕ) → Claim
   searchOf : List ℕ → ℕ → ℕ → SoloSearch → Claim
+  askOf : List ℕ → Numbered ℕ → ℕ → Answer (Asked ℕ) → Claim
+  pickOf : List ℕ → Numbered ℕ → ℕ → Answer Told → Claim
+  commitOf : List ℕ → Numbered ℕ → Ticket → Answer Told → Claim
 
 -- the lengths asked for
 abbrev pub roomFor : List ℕ → ℕ → ℕ → Room
@@ -136,6 +157,9 @@ Holds (listedOf t rows) = listedIn t (roomFor t plenty plenty) ≡ rows
 Holds (checkOf t k) = check t ≡ k
 Holds (stepOf t a g d) = step t a g ≡ d
 Holds (searchOf t i n s) = soloSearch t i (replicate n 7) (replicate n 7) ≡ s
+Holds (askOf t d j a) = askOn t plansOfL1 endsOfL1 d j ≡ a
+Holds (pickOf t d j a) = toldOf (pickNumbered t plansOfL1 endsOfL1 d j) ≡ a
+Holds (commitOf t d k a) = toldOf (commitOn t plansOfL1 endsOfL1 d k) ≡ a
 
 abbrev pub AllHold : List Claim → Type 0
 AllHold [] = Unit {0}
@@ -223,4 +247,54 @@ searches =
     ∷ searchOf l8 0 4 (finds 2 true 1 (1 ∷ 2 ∷ 0 ∷ 0 ∷ []) (1 ∷ 0 ∷ 0 ∷ 0 ∷ []))
     ∷ searchOf l4 1 4 (finds 4 false 0 (1 ∷ 8 ∷ 17 ∷ 24 ∷ []) (0 ∷ 0 ∷ 0 ∷ 0 ∷ []))
     ∷ searchOf l1 0 3 (refusedWith (0 ∷ 0 ∷ 0 ∷ []) (0 ∷ 0 ∷ 0 ∷ []) 9)
+    ∷ []
+
+-- ---- runs with their change number (document 02, F-4)
+
+-- the shared copy, the places of two members, what has closed the run, the change number
+abbrev pub at : ℕ → ℕ → ℕ → Closed → ℕ → Numbered ℕ
+at g i j c n = record { run = record { shared = g; places = λ k. getD (i ∷ j ∷ []) k 0; closed = c }; change = n }
+
+abbrev pub ticket : ℕ → ℕ → Ticket
+ticket j n = record { member = j; change = n }
+
+abbrev pub asked : Decision ℕ → Ticket → Answer (Asked ℕ)
+asked s k = gives (record { decision = s; ticket = k })
+
+abbrev pub tells : Reply → ℕ → ℕ → Answer Told
+tells r g n = gives (record { reply = r; shared = g; change = n })
+
+-- member 0 asked at the start; then member 1 waits in L1 and collides in L2
+abbrev pub asks : List Claim
+asks =
+    askOf l1 (at 1 0 0 not-yet 0) 0 (asked (go 2) (ticket 0 0))
+    ∷ askOf l1 (at 2 1 0 not-yet 1) 1 (asked wait (ticket 1 1))
+    ∷ askOf l2 (at 2 1 0 not-yet 1) 1 (asked Decision.collision (ticket 1 1))
+    -- no refusal at the last change number, nor for waiting
+    ∷ askOf l1 (at 1 0 0 not-yet lastChange) 0 (asked (go 2) (ticket 0 lastChange))
+    ∷ askOf l1 (at 2 1 0 not-yet lastChange) 1 (asked wait (ticket 1 lastChange))
+    ∷ askOf l1 (at 32 3 0 (by collision) 0) 2 (refused 4)
+    ∷ askOf l1 (at 2 3 0 (by collision) 0) 2 (refused 11)
+    ∷ askOf l1 (at 2 2 0 (by collision) 0) 2 (refused 8)
+    ∷ askOf l1 (at 1 0 0 (by collision) 0) 0 (refused 13)
+    ∷ askOf l1 (at 2 2 0 not-yet 0) 0 (refused 13)
+    ∷ []
+
+-- picks and commits: what counts, and which refusal stands first
+abbrev pub commits : List Claim
+commits =
+    pickOf l1 (at 1 0 0 not-yet 4294967294) 0 (tells goes 2 lastChange)
+    ∷ pickOf l1 (at 1 0 0 not-yet lastChange) 0 (refused 20)
+    ∷ pickOf l2 (at 2 1 0 not-yet lastChange) 1 (refused 20)
+    ∷ pickOf l1 (at 2 1 0 not-yet lastChange) 1 (refused 13)
+    ∷ commitOf l1 (at 1 0 0 not-yet 0) (ticket 0 0) (tells goes 2 1)
+    ∷ commitOf l2 (at 2 1 0 not-yet 1) (ticket 1 1) (tells collides 2 2)
+    ∷ commitOf l1 (at 2 1 0 not-yet 1) (ticket 0 0) (refused 19)
+    ∷ commitOf l1 (at 2 1 0 not-yet 1) (ticket 0 1) (tells goes 5 2)
+    ∷ commitOf l1 (at 2 3 0 not-yet 1) (ticket 2 0) (refused 11)
+    ∷ commitOf l1 (at 2 1 0 not-yet 1) (ticket 2 0) (refused 8)
+    ∷ commitOf l1 (at 2 1 0 (by collision) 1) (ticket 0 0) (refused 19)
+    ∷ commitOf l1 (at 2 1 0 not-yet 1) (ticket 1 0) (refused 19)
+    ∷ commitOf l1 (at 2 1 0 not-yet lastChange) (ticket 1 lastChange) (refused 13)
+    ∷ commitOf l1 (at 1 0 0 not-yet lastChange) (ticket 0 lastChange) (refused 20)
     ∷ []

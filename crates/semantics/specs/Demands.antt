@@ -11,7 +11,9 @@
 --   solo replay             `soloReplay`         solo_replay::solo_replay
 --   solo search             `soloSearch`         solo_search::solo_search
 --   joint replay            `jointReplay`        run_replay::joint_replay
---   pick on a run           `pickOn`             run_replay::pick; the run lent: run_dispatch::pick, run_dispatch::once
+--   pick on a run           `pickNumbered`       run_ticket::pick; the run lent: run_dispatch::pick, run_dispatch::once
+--   ask                     `askOn`              run_ticket::ask
+--   commit                  `commitOn`           run_ticket::commit; the run lent: run_dispatch::commit and ::commit_once
 --   picks on a run          `playOn`             run_dispatch::play; with the answers: run_play::play
 --   the dispatcher's start  `startOf`            run_dispatch::start
 --   verdict                 `VerdictMeans`       verdict::verdict; with `Demand3Answer`
@@ -20,8 +22,8 @@
 --
 -- The C interface (capi) gives these meanings as numbers.
 --
--- Demand 2, the model. Step, solo replay, joint replay, solo search and a pick on a run agree with the execution model
--- of social laws in MA-STRIPS (Model), yes where it says yes and no where it says no: `Demand2`.
+-- Demand 2, the model. Step, solo replay, joint replay, solo search, and a pick and an ask on a run agree with the
+-- execution model of social laws in MA-STRIPS (Model), yes where it says yes and no where it says no: `Demand2`.
 --
 -- Demand 3, robustness. For an accepted task that fits the slices and in which each member has a solving plan: over all
 -- choices of solving plans and all lists of picks, the finished runs are just the successes exactly when the verdict is
@@ -30,10 +32,10 @@
 -- `Demand3`, and of the verdict's own answer `Demand3Answer`. That it is the same with whatever room: `OneVerdict`. What
 -- the verdict's search lists, and when it refuses: `VerdictSearch`.
 use mathlib.Core.Path.{_≡_}
-use mathlib.Core.Bool.{Bool, true, false, not}
+use mathlib.Core.Bool.{Bool, true, false, cond, not}
 use mathlib.Core.Logic.{_↔_, _⊎_}
 use mathlib.Core.List.{List, [], _∷_, _++_, map, flatten, List·Memᴰ}
-use Prim.Native.Nat.{ℕ, _≤_, _<_}
+use Prim.Native.Nat.{ℕ, _+_, _≤_, _<_}
 use lib.ListN.{length, getD, take, drop}
 use lib.Dec.{eqb}
 use Rattle.semantics.specs.Base.{Answer, refused, gives, padded}
@@ -46,8 +48,10 @@ use Rattle.semantics.specs.Step.{Decision, stepRefusal, step}
 use Rattle.semantics.specs.Solo.{Solo, soloRefusal, soloReplay, soloNext, Searched, searchRefusal, soloSearch}
 use Rattle.semantics.specs.Run.{Run, Fault, not-yet, isClosed, Reply, Replied, Outcome, success, failure}
 use Rattle.semantics.specs.Run.{still-open, isSuccess, isOpen, Replay, rest, stepped, closedBy, passOver, start}
-use Rattle.semantics.specs.Run.{outcome, play, beginning, planOf, plansOf, plansRefusal, jointReplay, startOf}
-use Rattle.semantics.specs.Run.{tally, pick, endsFrom, pickOn, playOn}
+use Rattle.semantics.specs.Run.{outcome, play, beginning, planOf, plansOf, plansRefusal, jointReplay, advance}
+use Rattle.semantics.specs.Run.{tally, given, pick, endsFrom, pickOn}
+use Rattle.semantics.specs.Dispatch.{Numbered, lastChange, counts, Ticket, Asked, startOf, pickNumbered, playOn}
+use Rattle.semantics.specs.Dispatch.{first, askOn, commitOn}
 use Rattle.semantics.specs.Verdict.{Room, localRows, configurationRows, tooShort, Verdict, unsolvable, notRobust}
 use Rattle.semantics.specs.Verdict.{robust, Failing, Conflict, sameRow, localCopy, sharedCopy, startRow, moved}
 use Rattle.semantics.specs.Verdict.{moves, conflictPicks, verdict, Slices, room, liveFor, listedIn, listedFor}
@@ -167,6 +171,28 @@ pub record PickAgrees (t plans ends : List ℕ) (r : Run ℕ) (i : ℕ) : Type 0
   pub impossible : (pickOn t plans ends r i ≡ refused 13)
       ↔ ((i < members t) × ((isClosed (r .closed) ≡ true) ⊎ Stays (setting t) (worldIn t plans ends r) i))
 
+-- ---- an ask on a run
+
+-- the ticket for member i's pick on a run with this change number
+abbrev pub ticketOf : Numbered ℕ → ℕ → Ticket
+ticketOf d i = record { member = i; change = d .change }
+
+-- Each answer of an ask, both ways: what the scheduler's choice of agent i would meet, with the ticket for it; 8 for no
+-- agent; 13 for an agent that has ended, and for every agent of a run that is closed.
+pub record AskAgrees (t plans ends : List ℕ) (d : Numbered ℕ) (i : ℕ) : Type 0 where
+  pub goes : (g : ℕ)
+      → (askOn t plans ends d i ≡ gives (record { decision = Decision.go g; ticket = ticketOf d i }))
+      ↔ ((d .run .closed ≡ not-yet)
+      × Acts (setting t) (worldIn t plans ends (d .run)) i (worldIn t plans ends (stepped (d .run) i g)))
+  pub waits : (askOn t plans ends d i ≡ gives (record { decision = Decision.wait; ticket = ticketOf d i }))
+      ↔ ((d .run .closed ≡ not-yet) × (i < members t) × Waiting (setting t) (worldIn t plans ends (d .run)) i)
+  pub collides : (askOn t plans ends d i ≡ gives (record { decision = Decision.collision; ticket = ticketOf d i }))
+      ↔ ((d .run .closed ≡ not-yet) × Collides (setting t) (worldIn t plans ends (d .run)) i)
+  pub nobody : (askOn t plans ends d i ≡ refused 8) ↔ ¬ (i < members t)
+  pub impossible : (askOn t plans ends d i ≡ refused 13)
+      ↔ ((i < members t)
+      × ((isClosed (d .run .closed) ≡ true) ⊎ (worldIn t plans ends (d .run) .left i ≡ [])))
+
 -- ---- solo search
 
 -- agent i alone can bring about s; and can go on from s to its goal
@@ -225,8 +251,12 @@ pub record Demand2 : Type 0 where
   pub soloReplayAgrees : (t : List ℕ) (i : ℕ) (plan : List ℕ) → soloRefusal t i plan ≡ 0 → SoloReplayAgrees t i plan
   pub jointReplayAgrees : (t plans ends : List ℕ) → JointReplayAgrees t plans ends
   pub pickAgrees : (t plans ends : List ℕ) (r : Run ℕ) (i : ℕ) → RunFits t plans ends r → PickAgrees t plans ends r i
-  pub pickAnswers : (t plans ends : List ℕ) (r : Run ℕ) (i : ℕ) (p : Replied ℕ) → pickOn t plans ends r i ≡ gives p
+  pub pickAnswers : (t plans ends : List ℕ) (r : Run ℕ) (i : ℕ) (p : Replied (Run ℕ)) → pickOn t plans ends r i ≡ gives p
       → RunFits t plans ends r
+  pub askAgrees : (t plans ends : List ℕ) (d : Numbered ℕ) (i : ℕ) → RunFits t plans ends (d .run)
+      → AskAgrees t plans ends d i
+  pub askAnswers : (t plans ends : List ℕ) (d : Numbered ℕ) (i : ℕ) (a : Asked ℕ) → askOn t plans ends d i ≡ gives a
+      → RunFits t plans ends (d .run)
   pub soloSearchAgrees : (t : List ℕ) (i : ℕ) (table marks : List ℕ)
       → searchRefusal t i (length table) (length marks) ≡ 0 → SoloSearchAgrees t i table marks
 
@@ -350,15 +380,75 @@ pub record VerdictSearch (t : List ℕ) (room : Room) : Type 0 where
 abbrev pub Searches : Type 0
 Searches = (t : List ℕ) (room : Room) → check t ≡ 0 → tooShort t room ≡ false → VerdictSearch t room
 
--- ---- the dispatcher: its picks make the runs of demand 3
+-- ---- the dispatcher: ask, then commit (request F-4); its picks make the runs of demand 3
 --
--- Demand 1 of it is the contracts of its start, its pick and its list of picks, equal to `startOf`, `pickOn`, `playOn`.
+-- Demand 1 of it is the contracts of its operations, equal to `startOf`, `pickNumbered`, `playOn`, `askOn`, `commitOn`.
+
+-- what a runner calls on one run
+pub data Call : Type 0 where
+  asks : ℕ → Call
+  picks : ℕ → Call
+  commits : Ticket → Call
+
+-- whose step a call is about
+abbrev pub memberOf : Call → ℕ
+memberOf (asks j) = j
+memberOf (picks j) = j
+memberOf (commits k) = k .member
+
+-- what a pick of member j does where its step answers so: 13 for a wait, then 20
+abbrev pub does : Numbered ℕ → ℕ → Decision ℕ → Answer (Replied (Numbered ℕ))
+does d j s = counts d (advance (d .run) j s)
 
 module _ (t plans ends : List ℕ) where
-  -- the public pick done for each of the picks, a refused one passed over
-  unfoldable pub pickEach : Run ℕ → List ℕ → Run ℕ
-  pickEach r [] = r
-  pickEach r (j ∷ js) = pickEach (passOver r (pickOn t plans ends r j)) js
+  -- the run after a call: an ask and what is refused change nothing
+  abbrev pub called : Numbered ℕ → Call → Numbered ℕ
+  called d (asks j) = d
+  called d (picks j) = passOver d (pickNumbered t plans ends d j)
+  called d (commits k) = passOver d (commitOn t plans ends d k)
+
+  -- the call does a pick
+  abbrev pub isDone : Numbered ℕ → Call → Bool
+  isDone d (asks j) = false
+  isDone d (picks j) = given (pickNumbered t plans ends d j)
+  isDone d (commits k) = given (commitOn t plans ends d k)
+
+  -- the run after the calls, each meeting it as the last one left it
+  unfoldable pub calls : Numbered ℕ → List Call → Numbered ℕ
+  calls d [] = d
+  calls d (c ∷ cs) = calls (called d c) cs
+
+  -- those of the calls that do a pick where they are met
+  unfoldable pub doing : Numbered ℕ → List Call → List Call
+  doing d [] = []
+  doing d (c ∷ cs) = cond (isDone d c) (c ∷ doing (called d c) cs) (doing (called d c) cs)
+
+  -- A list of calls, asks among them, leaves what those alone leave that do a pick; alone each of them does it too. The
+  -- change number counts them, and the run is that of their picks.
+  pub record CallsAlone (d : Numbered ℕ) (cs : List Call) : Type 0 where
+    pub leaves : calls d cs ≡ calls d (doing d cs)
+    pub stillDone : doing d (doing d cs) ≡ doing d cs
+    pub counted : calls d cs .change ≡ d .change + length (doing d cs)
+    pub plays : calls d cs .run
+        ≡ play (system t) (waits t) (plansOf (members t) plans ends) (d .run) (map memberOf (doing d cs))
+
+  -- A ticket is good for the run at which it was asked and for no later one. While no call has done a pick the run is
+  -- that one, and the commit does what the ask answered; afterwards it is refused with 19.
+  pub record TicketGood (d : Numbered ℕ) (a : Asked ℕ) (cs : List Call) : Type 0 where
+    pub fresh : doing d cs ≡ [] → calls d cs ≡ d
+    pub committed : commitOn t plans ends d (a .ticket) ≡ does d (a .ticket .member) (a .decision)
+    pub stale : ¬ (doing d cs ≡ []) → commitOn t plans ends (calls d cs) (a .ticket) ≡ refused 19
+
+  pub record Tickets (d : Numbered ℕ) : Type 0 where
+    pub alone : (cs : List Call) → CallsAlone d cs
+    pub good : (j : ℕ) (a : Asked ℕ) → askOn t plans ends d j ≡ gives a → (cs : List Call) → TicketGood d a cs
+    -- a commit that is not refused does what an ask of its member answers there, and the ask gives its ticket
+    pub answers : (k : Ticket) (p : Replied (Numbered ℕ)) → commitOn t plans ends d k ≡ gives p
+        → (s : Decision ℕ)
+        × (askOn t plans ends d (k .member) ≡ gives (record { decision = s; ticket = k }))
+        × (does d (k .member) s ≡ gives p)
+    -- with the run's change number it is a pick
+    pub isPick : (j : ℕ) → commitOn t plans ends d (ticketOf d j) ≡ pickNumbered t plans ends d j
 
   -- plans in slices, as the dispatcher takes them, are the choice c
   abbrev pub InSlices : Choice (system t) → Type 0
@@ -366,21 +456,27 @@ module _ (t plans ends : List ℕ) where
 
 -- the run of demand 3
 abbrev pub madeRun : (t : List ℕ) → Choice (system t) → List ℕ → Run ℕ
-madeRun t c picks = play (system t) (waits t) (c .plans) (start (system t)) picks
+madeRun t c js = play (system t) (waits t) (c .plans) (start (system t)) js
 
 pub record PickedRuns (t plans ends : List ℕ) (c : Choice (system t)) : Type 0 where
-  -- the public pick done for each of the picks, from the start, makes the run of demand 3
-  pub each : (picks : List ℕ) → pickEach t plans ends (start (system t)) picks ≡ madeRun t c picks
-  -- no such pick is refused but an impossible one
-  pub impossible : (picks : List ℕ) (j k : ℕ)
-      → pickOn t plans ends (madeRun t c picks) j ≡ refused k → (k ≡ 8) ⊎ (k ≡ 13)
-  -- and so does the list of picks at once
-  pub atOnce : (picks : List ℕ) → playOn t plans ends (start (system t)) picks ≡ gives (madeRun t c picks)
+  -- whatever is called from the start on, the run is one of demand 3: that of the picks done, of which there are no more
+  -- than the plans have steps
+  pub made : (cs : List Call)
+      → calls t plans ends (first t) cs .run ≡ madeRun t c (map memberOf (doing t plans ends (first t) cs))
+  pub few : (cs : List Call) → calls t plans ends (first t) cs .change ≤ length (flatten (c .plans))
+  -- the public pick done for each of the picks makes the run of all of them, while the change number is not the last
+  pub each : (js : List ℕ) → calls t plans ends (first t) (map picks js) .change < lastChange
+      → calls t plans ends (first t) (map picks js) .run ≡ madeRun t c js
+  -- no pick is refused but an impossible one, and any at the last change number
+  pub impossible : (cs : List Call) (j k : ℕ) → pickNumbered t plans ends (calls t plans ends (first t) cs) j ≡ refused k
+      → (k ≡ 8) ⊎ (k ≡ 13) ⊎ ((k ≡ 20) × (calls t plans ends (first t) cs .change ≡ lastChange))
+  -- the list of picks at once is the picks one by one
+  pub atOnce : (js : List ℕ) → playOn t plans ends (first t) js ≡ gives (calls t plans ends (first t) (map picks js))
 
 -- For a task that is not refused: the start is given; plans that are not refused are a choice, and each choice can be
 -- laid in slices; the dispatcher's picks make the choice's runs.
 pub record Dispatcher (t : List ℕ) : Type 0 where
-  pub starts : startOf t ≡ gives (start (system t))
+  pub starts : startOf t ≡ gives (first t)
   pub chosen : (plans ends : List ℕ) → plansRefusal t plans ends ≡ 0 → (c : Choice (system t)) × InSlices t plans ends c
   pub laid : (c : Choice (system t)) → (plans : List ℕ) × (ends : List ℕ) × InSlices t plans ends c
   pub runs : (plans ends : List ℕ) (c : Choice (system t)) → InSlices t plans ends c → PickedRuns t plans ends c

@@ -1,6 +1,7 @@
 pub mod Base
 pub mod Completion
 pub mod Demands
+pub mod Dispatch
 pub mod Listing
 pub mod Mask
 pub mod Model

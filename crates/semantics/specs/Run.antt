@@ -38,10 +38,10 @@ pub data Reply : Type 0 where
   goes : Reply
   collides : Reply
 
--- its reply, and the run after it
-pub record Replied (State : Type 0) : Type 0 where
+-- its reply, and the run after it, a run of whatever type R
+pub record Replied (R : Type 0) : Type 0 where
   pub reply : Reply
-  pub run : Run State
+  pub run : R
 
 pub data Outcome : Type 0 where
   success : Outcome
@@ -77,22 +77,23 @@ module _ {State : Type 0} where
   closedBy r f = record { shared = r .shared; places = r .places; closed = by f }
 
   -- what the routine's answer makes of the run; waiting is no possible pick
-  abbrev pub advance : Run State → ℕ → Decision State → Answer (Replied State)
+  abbrev pub advance : Run State → ℕ → Decision State → Answer (Replied (Run State))
   advance r j (Decision.go g) = gives (record { reply = goes; run = stepped r j g })
   advance r j Decision.wait = refused 13
   advance r j Decision.collision = gives (record { reply = collides; run = closedBy r collision })
 
-  abbrev pub given : Answer (Replied State) → Bool
+module _ {R : Type 0} where
+  abbrev pub given : Answer (Replied R) → Bool
   given (refused k) = false
   given (gives p) = true
 
   -- an impossible pick is passed over and changes nothing
-  abbrev pub passOver : Run State → Answer (Replied State) → Run State
+  abbrev pub passOver : R → Answer (Replied R) → R
   passOver r (refused k) = r
   passOver r (gives p) = p .run
 
   -- the run after a pick, or the pick's refusal
-  abbrev pub runAfter : Answer (Replied State) → Answer (Run State)
+  abbrev pub runAfter : Answer (Replied R) → Answer R
   runAfter (refused k) = refused k
   runAfter (gives p) = gives (p .run)
 
@@ -101,7 +102,7 @@ abbrev pub counted : ℕ → Reply → ℕ
 counted k goes = k + 1
 counted k collides = k
 
-abbrev pub tally : {State : Type 0} → ℕ → Answer (Replied State) → ℕ
+abbrev pub tally : {R : Type 0} → ℕ → Answer (Replied R) → ℕ
 tally k (refused e) = k
 tally k (gives p) = counted k (p .reply)
 
@@ -123,12 +124,12 @@ pub record Replay (State : Type 0) : Type 0 where
 
 module _ (S : System) (waits : Waits S) (plans : List (List ℕ)) where
   -- a pick of member j with these steps left
-  unfoldable pub pickStep : Run (S .State) → ℕ → List ℕ → Answer (Replied (S .State))
+  unfoldable pub pickStep : Run (S .State) → ℕ → List ℕ → Answer (Replied (Run (S .State)))
   pickStep r j [] = refused 13
   pickStep r j (a ∷ p) = advance r j (routine S waits a (r .shared))
 
   -- a pick: its reply and the run after it; or 8 no member, 13 no possible pick
-  unfoldable pub pick : Run (S .State) → ℕ → Answer (Replied (S .State))
+  unfoldable pub pick : Run (S .State) → ℕ → Answer (Replied (Run (S .State)))
   pick r j = unless ((8 if not (ltb j (S .members))) else (13 if isClosed (r .closed))) (pickStep r j (rest plans r j))
 
   -- some member can be picked
@@ -207,11 +208,7 @@ unfoldable pub jointReplay : List ℕ → List ℕ → List ℕ → List ℕ →
 jointReplay t plans ends picks =
     unless (plansRefusal t plans ends) (replay (system t) (waits t) (plansOf (members t) plans ends) picks)
 
--- ---- the dispatcher: a run that is handed in, any run
-
--- the run at the start
-abbrev pub startOf : List ℕ → Answer (Run ℕ)
-startOf t = unless (check t) (gives (start (system t)))
+-- ---- a run that is handed in, any run
 
 -- some member's place is past its plan's end
 abbrev pub pastEnd : List ℕ → List ℕ → List ℕ → Run ℕ → Bool
@@ -223,11 +220,6 @@ runRefusal t plans ends r =
     plansRefusal t plans ends else (4 if not (below (facts t) (r .shared))) else (11 if pastEnd t plans ends r)
 
 -- a pick on a run
-unfoldable pub pickOn : List ℕ → List ℕ → List ℕ → Run ℕ → ℕ → Answer (Replied ℕ)
+unfoldable pub pickOn : List ℕ → List ℕ → List ℕ → Run ℕ → ℕ → Answer (Replied (Run ℕ))
 pickOn t plans ends r j =
     unless (runRefusal t plans ends r) (pick (system t) (waits t) (plansOf (members t) plans ends) r j)
-
--- a list of picks on a run: an impossible pick is passed over and changes nothing
-unfoldable pub playOn : List ℕ → List ℕ → List ℕ → Run ℕ → List ℕ → Answer (Run ℕ)
-playOn t plans ends r picks =
-    unless (runRefusal t plans ends r) (gives (play (system t) (waits t) (plansOf (members t) plans ends) r picks))

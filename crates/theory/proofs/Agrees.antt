@@ -1,4 +1,5 @@
 -- The operations agree with the execution model of social laws in MA-STRIPS.
+pub mod Ask
 pub mod Joint
 pub mod Outcome
 pub mod Pick

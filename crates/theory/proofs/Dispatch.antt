@@ -1,137 +1,145 @@
--- The dispatcher: a run from the start holds no bit past the facts and no place past its plan's end, so that a pick
--- on it is not refused for what it holds; the public pick, done for each pick of a list, makes the runs of demand 3.
--- Assumes nothing.
+-- The dispatcher: the public pick, done for each pick of a list, makes the runs of demand 3. Assumes nothing.
 use mathlib.Core.Path.{_≡_, refl, sym, ap, subst, _∙_}
-use mathlib.Core.Bool.{cond}
 use mathlib.Core.Logic.{_⊎_, inl, inr}
-use mathlib.Core.List.{List, [], _∷_, flatten}
-use Prim.Native.Nat.{ℕ, _+_, _≤_, _<_, zero-le}
+use mathlib.Core.List.{List, [], _∷_, map, flatten}
+use Prim.Native.Nat.{ℕ, _≤_, _<_}
 use native.Mathlib.Omega.{arith}
-use native.Mathlib.Decide.{ℕ-discrete}
 use lib.ListN.{length, length-map}
-use lib.Dec.{eqb}
-use borrow.Author.Tests.{eq-eqb, ne-eqb}
 use Rattle.semantics.specs.Base.{upTo, Answer, refused, gives}
-use Rattle.semantics.specs.Task.{check, members, facts, add, del}
+use Rattle.semantics.specs.Task.{check, members}
 use Rattle.semantics.specs.System.{system, waits, Solves, Choice}
-use Rattle.semantics.specs.Run.{Run, Replied, rest, passOver, start, pick, play, planOf, plansOf, plansRefusal}
-use Rattle.semantics.specs.Run.{endsFrom, pickOn, playOn}
-use Rattle.semantics.specs.Demands.{RunFits, pickEach, InSlices, madeRun, PickedRuns, Dispatcher}
+use Rattle.semantics.specs.Run.{Run, Replied, passOver, start, pick, play, planOf, plansOf, plansRefusal, endsFrom}
+use Rattle.semantics.specs.Dispatch.{first, Numbered, lastChange, counts, playNumbered, playOn}
+use Rattle.semantics.specs.Demands.{RunFits, picks, memberOf, calls, doing, InSlices, madeRun, PickedRuns}
+use Rattle.semantics.specs.Demands.{Dispatcher}
 use Rattle.theory.proofs.Lists.{upTo-length, getD-upTo}
 use Rattle.theory.proofs.Refusals.{refused-gives}
-use Rattle.theory.proofs.Attempts.{result-after}
-use Rattle.theory.proofs.Masks.{after-below}
-use Rattle.theory.proofs.Accepted.{accepted}
-use Rattle.theory.proofs.Plans.{laid-plans, laid-accepted, checked-task, rest-length}
-use Rattle.theory.proofs.Picks.{Picked, nobody, closed, over, goes, collides, picked}
-use Rattle.theory.proofs.Picks as Picks
+use Rattle.theory.proofs.Plans.{laid-plans, laid-accepted}
+use Rattle.theory.proofs.Picks.{Picked, picked}
+use Rattle.theory.proofs.Counts.{Counted, none, full, done, counting}
+use Rattle.theory.proofs.Fits.{start-fits, fits-keeps, fits-pick-numbered}
+use Rattle.theory.proofs.Calls.{alone, fits-calls, few-calls}
 use Rattle.theory.proofs.Agrees.Solo.{solution-leads}
 use Rattle.theory.proofs.Agrees.Joint.{joint-replay-agrees}
-use Rattle.theory.proofs.Agrees.Pick.{fits-passes, fits-pick}
+use Rattle.theory.proofs.Agrees.Pick.{fits-passes}
 
 module _ (t plans ends : List ℕ) where
   abbrev P : List (List ℕ)
   P = plansOf (members t) plans ends
 
-  abbrev pickP : Run ℕ → ℕ → Answer (Replied ℕ)
+  abbrev pickP : Run ℕ → ℕ → Answer (Replied (Run ℕ))
   pickP r j = pick (system t) (waits t) P r j
 
   abbrev playP : Run ℕ → List ℕ → Run ℕ
   playP r js = play (system t) (waits t) P r js
 
-  abbrev steps : ℕ → ℕ
-  steps i = length (planOf plans ends i)
+  -- the same with the change number
+  abbrev playN : Numbered ℕ → List ℕ → Numbered ℕ
+  playN d js = playNumbered (system t) (waits t) P d js
 
-  abbrev place : Run ℕ → ℕ → ℕ
-  place r i = r .places i
+  abbrev after : Numbered ℕ → ℕ → Numbered ℕ
+  after d j = passOver d (counts d (pickP (d .run) j))
 
-  -- on a run that fits, a list of picks is the picks themselves
-  pub fits-list : (r : Run ℕ) → RunFits t plans ends r → (js : List ℕ) → playOn t plans ends r js ≡ gives (playP r js)
+  fits-after : (d : Numbered ℕ) → RunFits t plans ends (d .run) → (j : ℕ) → RunFits t plans ends (after d j .run)
+  fits-after d f j = at (counting d (pickP (d .run) j)) (fits-keeps t plans ends (d .run) f j)
+    where
+      at : {x : Answer (Replied (Run ℕ))} {y : Answer (Replied (Numbered ℕ))} → Counted d x y
+          → RunFits t plans ends (passOver (d .run) x) → RunFits t plans ends (passOver d y .run)
+      at none g = f
+      at (full e) g = f
+      at (done e) g = g
+
+  -- a list of picks on it leaves a run that fits, and is the public picks one after the other
+  pub fits-play : (d : Numbered ℕ) → RunFits t plans ends (d .run) → (js : List ℕ)
+      → RunFits t plans ends (playN d js .run)
+  unfolding playNumbered
+  fits-play d f [] = f
+  fits-play d f (j ∷ js) = fits-play (after d j) (fits-after d f j) js
+
+  pub fits-list : (d : Numbered ℕ) → RunFits t plans ends (d .run) → (js : List ℕ)
+      → playOn t plans ends d js ≡ gives (playN d js)
   unfolding playOn
-  fits-list r f js = rw (fits-passes t plans ends r f)
+  fits-list d f js = rw (fits-passes t plans ends (d .run) f)
 
-  pub start-fits : plansRefusal t plans ends ≡ 0 → RunFits t plans ends (start (system t))
-  unfolding start
-  start-fits ok =
-      let a = accepted t (checked-task t plans ends ok) in
-      record {
-        plans-fit = ok;
-        shared-fits = a .initial-below;
-        places-fit = λ i h. zero-le;
-      }
+  fits-each : (d : Numbered ℕ) → RunFits t plans ends (d .run) → (js : List ℕ)
+      → calls t plans ends d (map picks js) ≡ playN d js
+  unfolding calls playNumbered
+  fits-each d f [] = refl
+  fits-each d f (j ∷ js) =
+      ap (λ (x : Answer (Replied (Numbered ℕ))). calls t plans ends (passOver d x) (map picks js))
+      (fits-pick-numbered t plans ends d f j)
+      ∙ fits-each (after d j) (fits-after d f j) js
 
-  pub fits-keeps : (r : Run ℕ) → RunFits t plans ends r → (j : ℕ) → RunFits t plans ends (passOver r (pickP r j))
-  fits-keeps r f j = at (picked (system t) (waits t) P r j)
+  -- ---- the runs that the picks make
+
+  -- the change number never falls
+  change-rises : (d : Numbered ℕ) (js : List ℕ) → d .change ≤ playN d js .change
+  unfolding playNumbered
+  change-rises d [] = omega arith
+  change-rises d (j ∷ js) = at (counting d (pickP (d .run) j)) (change-rises (after d j) js)
     where
-      moved : (a : ℕ) (p : List ℕ) → j < members t → rest P r j ≡ a ∷ p
-          → (i : ℕ) → i < members t → cond (eqb i j) (place r i + 1) (place r i) ≤ steps i
-      moved a p h e i l = which (ℕ-discrete i j)
-        where
-          room : place r j < steps j
-          room = omega (arith, rest-length (members t) plans ends r j h, ap length e)
+      at : {x : Answer (Replied (Run ℕ))} {y : Answer (Replied (Numbered ℕ))} → Counted d x y
+          → passOver d y .change ≤ playN (passOver d y) js .change → d .change ≤ playN (passOver d y) js .change
+      at none l = l
+      at (full e) l = l
+      at (done e) l = omega arith
 
-          which : Dec (i ≡ j) → cond (eqb i j) (place r i + 1) (place r i) ≤ steps i
-          which (no ne) = rw (ne-eqb i j ne) (f .places-fit i l)
-          which (yes q) = rw (eq-eqb i j q) (subst (λ (x : ℕ). place r x + 1 ≤ steps x) (sym q) (omega (arith, room)))
-
-      at : {x : Answer (Replied ℕ)} → Picked (system t) (waits t) P r j x → RunFits t plans ends (passOver r x)
-      at (nobody h) = f
-      at (closed h c) = f
-      at (over h c e) = f
-      at (Picks.waits h c e w) = f
-      at (goes {a = a} {p = p} h c e w b) =
-          let s = accepted t (checked-task t plans ends (f .plans-fit)) .action-fits a in
-          record {
-            plans-fit = f .plans-fit;
-            shared-fits =
-                rw (result-after t a (r .shared) b)
-                (after-below (facts t) (r .shared) (add t a) (del t a) (f .shared-fits) (s .add-below));
-            places-fit = moved a p h e;
-          }
-      at (collides h c e w b) =
-          record { plans-fit = f .plans-fit; shared-fits = f .shared-fits; places-fit = f .places-fit }
-
-  -- picks done by the public pick are the model's picks, and leave a run that fits
-  pub fits-each : (r : Run ℕ) → RunFits t plans ends r → (js : List ℕ) → pickEach t plans ends r js ≡ playP r js
-  unfolding pickEach play
-  fits-each r f [] = refl
-  fits-each r f (j ∷ js) =
-      rw (fits-pick t plans ends r j f) (fits-each (passOver r (pickP r j)) (fits-keeps r f j) js)
-
-  pub fits-play : (r : Run ℕ) → RunFits t plans ends r → (js : List ℕ) → RunFits t plans ends (playP r js)
-  unfolding play
-  fits-play r f [] = f
-  fits-play r f (j ∷ js) = fits-play (passOver r (pickP r j)) (fits-keeps r f j) js
-
-  -- a pick is refused with 8 or 13
-  pub pick-refusals : (r : Run ℕ) (j k : ℕ) → pickP r j ≡ refused k → (k ≡ 8) ⊎ (k ≡ 13)
-  pick-refusals r j k e = at (picked (system t) (waits t) P r j) e
+  -- where the last change number is not reached, all the picks make the run
+  all-plays : (d : Numbered ℕ) (js : List ℕ) → playN d js .change < lastChange → playN d js .run ≡ playP (d .run) js
+  unfolding playNumbered play
+  all-plays d [] l = refl
+  all-plays d (j ∷ js) l =
+      at (pickP (d .run) j) (counting d (pickP (d .run) j)) l (all-plays (after d j) js l)
     where
-      at : {x : Answer (Replied ℕ)} → Picked (system t) (waits t) P r j x → x ≡ refused k → (k ≡ 8) ⊎ (k ≡ 13)
-      at (nobody h) e = inl (cc)
-      at (closed h c) e = inr (cc)
-      at (over h c q) e = inr (cc)
-      at (Picks.waits h c q w) e = inr (cc)
-      at (goes h c q w b) e = absurd (refused-gives (sym e))
-      at (collides h c q w b) e = absurd (refused-gives (sym e))
+      at : (x : Answer (Replied (Run ℕ))) {y : Answer (Replied (Numbered ℕ))} → Counted d x y
+          → playN (passOver d y) js .change < lastChange
+          → playN (passOver d y) js .run ≡ playP (passOver d y .run) js
+          → playN (passOver d y) js .run ≡ playP (passOver (d .run) x) js
+      at x none l m = m
+      at x (full e) l m = absurd (omega (arith, change-rises d js))
+      at x (done e) l m = m
+
+  -- a pick is refused with 8 or 13, and with 20 at the last change number
+  pick-refusals : (d : Numbered ℕ) (j k : ℕ) → counts d (pickP (d .run) j) ≡ refused k
+      → (k ≡ 8) ⊎ (k ≡ 13) ⊎ ((k ≡ 20) × (d .change ≡ lastChange))
+  pick-refusals d j k e = at (picked (system t) (waits t) P (d .run) j) (counting d (pickP (d .run) j)) e
+    where
+      at : {x : Answer (Replied (Run ℕ))} {y : Answer (Replied (Numbered ℕ))}
+          → Picked (system t) (waits t) P (d .run) j x → Counted d x y → y ≡ refused k
+          → (k ≡ 8) ⊎ (k ≡ 13) ⊎ ((k ≡ 20) × (d .change ≡ lastChange))
+      at m (done l) e = absurd (refused-gives (sym e))
+      at m (full l) e = inr (inr ((cc), l))
+      at (Picked.nobody h) none e = inl (cc)
+      at (Picked.closed h c) none e = inr (inl (cc))
+      at (Picked.over h c q) none e = inr (inl (cc))
+      at (Picked.waits h c q w) none e = inr (inl (cc))
 
   -- ---- the runs of demand 3
 
-  pub picked-runs : (c : Choice (system t)) → InSlices t plans ends c → PickedRuns t plans ends c
+  picked-runs : (c : Choice (system t)) → InSlices t plans ends c → PickedRuns t plans ends c
   picked-runs c (ok, e) =
       record {
-        each = λ picks. fits-each (start (system t)) (start-fits ok) picks ∙ made picks;
-        impossible = λ picks j k q.
-            pick-refusals (playP (start (system t)) picks) j k
-            (sym (fits-pick t plans ends (playP (start (system t)) picks) j
-            (fits-play (start (system t)) (start-fits ok) picks))
-            ∙ ap (λ (r : Run ℕ). pickOn t plans ends r j) (made picks)
-            ∙ q);
-        atOnce = λ picks. fits-list (start (system t)) (start-fits ok) picks ∙ ap gives (made picks);
+        made = λ cs. alone t plans ends (first t) cs .plays ∙ chosen (map memberOf (doing t plans ends (first t) cs));
+        few = λ cs. subst (λ (ps : List (List ℕ)). calls t plans ends (first t) cs .change ≤ length (flatten ps)) e
+            (few-calls t plans ends cs);
+        each = λ js l.
+            ap (λ (d : Numbered ℕ). d .run) (each js)
+            ∙ all-plays (first t) js (subst (λ (d : Numbered ℕ). d .change < lastChange) (each js) l)
+            ∙ chosen js;
+        impossible = λ cs j k q.
+            let d = calls t plans ends (first t) cs in
+            pick-refusals d j k (sym (fits-pick-numbered t plans ends d (fits-calls t plans ends (first t) begins cs) j) ∙ q);
+        atOnce = λ js. fits-list (first t) begins js ∙ ap gives (sym (each js));
       }
     where
-      made : (picks : List ℕ) → playP (start (system t)) picks ≡ madeRun t c picks
-      made picks = ap (λ (ps : List (List ℕ)). play (system t) (waits t) ps (start (system t)) picks) e
+      begins : RunFits t plans ends (start (system t))
+      begins = start-fits t plans ends ok
+
+      each : (js : List ℕ) → calls t plans ends (first t) (map picks js) ≡ playN (first t) js
+      each js = fits-each (first t) begins js
+
+      chosen : (js : List ℕ) → playP (start (system t)) js ≡ madeRun t c js
+      chosen js = ap (λ (ps : List (List ℕ)). play (system t) (waits t) ps (start (system t)) js) e
 
   -- plans that are not refused are a choice
   plans-chosen : plansRefusal t plans ends ≡ 0 → (c : Choice (system t)) × InSlices t plans ends c

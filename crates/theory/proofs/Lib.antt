@@ -2,14 +2,17 @@ pub mod Accepted
 pub mod Agrees
 pub mod AnyRoom
 pub mod Attempts
+pub mod Calls
 pub mod Complete
 pub mod Completion
+pub mod Counts
 pub mod Demand2
 pub mod Demand3
 pub mod Dispatch
 pub mod Faults
 pub mod First
 pub mod FirstListed
+pub mod Fits
 pub mod Laid
 pub mod Listing
 pub mod Lists
@@ -27,6 +30,7 @@ pub mod Sequence
 pub mod SoloSearch
 pub mod Walks
 pub mod Sound
+pub mod Tickets
 pub mod Verdict
 pub mod VerdictSearch
 pub mod Waiting

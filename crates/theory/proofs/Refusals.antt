@@ -11,6 +11,11 @@ pub else-both : (r s : ℕ) → r else s ≡ 0 → (r ≡ 0) × (s ≡ 0)
 else-both zero s h = (refl, h)
 else-both (suc r) s h = absurd (omega arith)
 
+-- a refusal that is there comes first
+pub else-first : (r s : ℕ) → (r ≡ 0 → ⊥) → r ≡ (r else s)
+else-first zero s h = absurd (h refl)
+else-first (suc r) s h = refl
+
 pub if-false : (k : ℕ) (b : Bool) → suc k if b ≡ 0 → b ≡ false
 if-false k true h = absurd (omega arith)
 if-false k false h = refl
@@ -41,7 +46,11 @@ refused-gives e = apart (cc)
 pub gives-inj : {A : Type 0} {u v : A} → gives u ≡ gives v → u ≡ v
 gives-inj e = cc
 
--- an answer comes from no refusal
+-- a refusal that is there is the answer; an answer comes from no refusal
+pub unless-refused : {A : Type 0} (r : ℕ) (x : Answer A) → (r ≡ 0 → ⊥) → unless r x ≡ refused r
+unless-refused zero x h = absurd (h refl)
+unless-refused (suc r) x h = refl
+
 pub unless-gives : {A : Type 0} {v : A} (r : ℕ) (x : Answer A) → unless r x ≡ gives v → (r ≡ 0) × (x ≡ gives v)
 unless-gives zero x e = (refl, e)
 unless-gives (suc r) x e = absurd (refused-gives e)

@@ -5,7 +5,8 @@ use Prim.Native.Nat.{ℕ}
 use Rattle.semantics.specs.Base.{Answer, refused, gives}
 use Rattle.semantics.specs.Task.{members}
 use Rattle.semantics.specs.System.{System, Waits, system, waits}
-use Rattle.semantics.specs.Run.{Run, passOver, runAfter, tally, pick, play, replayOn, plansOf, playOn}
+use Rattle.semantics.specs.Run.{Run, passOver, runAfter, tally, pick, play, replayOn, plansOf}
+use Rattle.semantics.specs.Dispatch.{Numbered, counts, playNumbered, playOn}
 use Rattle.semantics.specs.Demands.{RunFits}
 use Rattle.theory.proofs.Dispatch.{fits-list, fits-play}
 
@@ -15,6 +16,12 @@ module _ (S : System) (W : Waits S) (plans : List (List ℕ)) where
   unfolding play
   play-append r [] ys = refl
   play-append r (j ∷ xs) ys = play-append (passOver r (pick S W plans r j)) xs ys
+
+  pub playNumbered-append : (d : Numbered (S .State)) (xs ys : List ℕ)
+      → playNumbered S W plans d (xs ++ ys) ≡ playNumbered S W plans (playNumbered S W plans d xs) ys
+  unfolding playNumbered
+  playNumbered-append d [] ys = refl
+  playNumbered-append d (j ∷ xs) ys = playNumbered-append (passOver d (counts d (pick S W plans (d .run) j))) xs ys
 
   -- joint replay's run after a list of picks, and the picks done
   pub after : Answer (Run (S .State)) → List ℕ → Answer (Run (S .State))
@@ -40,12 +47,12 @@ module _ (S : System) (W : Waits S) (plans : List (List ℕ)) where
       replay-append (runAfter (pick S W plans r j)) (tally k (pick S W plans r j)) xs ys
 
 -- the dispatcher's list of picks, on a run that is not refused
-module _ (t plans ends : List ℕ) (r : Run ℕ) (f : RunFits t plans ends r) where
-  abbrev played : List ℕ → Run ℕ
-  played xs = play (system t) (waits t) (plansOf (members t) plans ends) r xs
+module _ (t plans ends : List ℕ) (d : Numbered ℕ) (f : RunFits t plans ends (d .run)) where
+  abbrev played : List ℕ → Numbered ℕ
+  played xs = playNumbered (system t) (waits t) (plansOf (members t) plans ends) d xs
 
-  pub playOn-append : (xs ys : List ℕ) → playOn t plans ends r (xs ++ ys) ≡ playOn t plans ends (played xs) ys
+  pub playOn-append : (xs ys : List ℕ) → playOn t plans ends d (xs ++ ys) ≡ playOn t plans ends (played xs) ys
   playOn-append xs ys =
-      fits-list t plans ends r f (xs ++ ys)
-      ∙ ap gives (play-append (system t) (waits t) (plansOf (members t) plans ends) r xs ys)
-      ∙ sym (fits-list t plans ends (played xs) (fits-play t plans ends r f xs) ys)
+      fits-list t plans ends d f (xs ++ ys)
+      ∙ ap gives (playNumbered-append (system t) (waits t) (plansOf (members t) plans ends) d xs ys)
+      ∙ sym (fits-list t plans ends (played xs) (fits-play t plans ends d f xs) ys)

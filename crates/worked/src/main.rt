@@ -118,11 +118,18 @@ fn runs_of_l1(t: &[u64]) {
     worked_show::show_runs(1, t, &[0, 1, 2, 3], &[2, 4], &[0, 1]);
 }
 
+// The last two change numbers of 32 bits.
+fn changes_of_l1(t: &[u64]) {
+    worked_show::show_change(1, t, &[0, 1, 2, 3], &[2, 4], 4294967294);
+    worked_show::show_change(1, t, &[0, 1, 2, 3], &[2, 4], 4294967295);
+}
+
 fn on_l1(t: &[u64]) {
     steps_of_l1(t);
     plans_of_l1(t);
     copies_of_l1(t);
     runs_of_l1(t);
+    changes_of_l1(t);
 }
 
 fn on_l2(t: &[u64]) {

@@ -4,12 +4,15 @@ use fault::Fault;
 use fault::Verdict;
 use fault::VerdictAnswer;
 use mask::Shared;
+use run_outcome::Outcome;
+use run_outcome::ReplayAnswer;
 use run_pick::Answer;
 use run_pick::Closed;
-use run_pick::Outcome;
-use run_pick::ReplayAnswer;
 use run_pick::Reply;
 use run_pick::Run;
+use run_ticket::AskAnswer;
+use run_ticket::Numbered;
+use run_ticket::Ticket;
 use solo_replay::Solo;
 use solo_replay::SoloAnswer;
 use solo_search::SearchAnswer;
@@ -195,7 +198,8 @@ fn show_answer_of(a: Answer) {
 }
 
 // Of the places, those of two members.
-fn show_run(run: Run) {
+fn show_run(at: Numbered) {
+    let run = at.run;
     let g = run.shared;
     say_number(b" shared", mask::to_word(g.0));
     let p = run.places;
@@ -206,11 +210,11 @@ fn show_run(run: Run) {
         Closed::NotYet => {}
         Closed::By(_) => say(b", collided"),
     }
-    end();
+    line(b", changes", at.change as u64);
 }
 
 // The picks one after the other, each on the run as the last one left it.
-fn show_each(t: &[u64], plans: &[u16], ends: &[u64], first: Run, picks: &[u8]) -> Run {
+fn show_each(t: &[u64], plans: &[u16], ends: &[u64], first: Numbered, picks: &[u8]) -> Numbered {
     let mut run = first;
     let mut k = 0;
     while k < picks.len() {
@@ -247,31 +251,103 @@ fn show_list(law: u64, t: &[u64], plans: &[u16], ends: &[u64], picks: &[u8]) {
     show_run(played);
 }
 
+// A commit with the ticket, and the run after it.
+fn show_commit(t: &[u64], plans: &[u16], ends: &[u64], run: Numbered, ticket: Ticket) -> Numbered {
+    let p = run_dispatch::commit_once(t, plans, ends, run, ticket);
+    let a = p.answer;
+    show_answer_of(a);
+    say(b";");
+    p.run
+}
+
+// An ask of the member, and the commit that it gives a ticket for.
+fn show_ask(t: &[u64], plans: &[u16], ends: &[u64], run: Numbered, member: u8) -> Numbered {
+    let a = run_ticket::ask(t, plans, ends, run, member);
+    match a {
+        AskAnswer::Refused(k) => {
+            say_number(b" ask refused", k);
+            say(b";");
+            run
+        }
+        AskAnswer::Gives(d, ticket) => {
+            match d {
+                Decision::Go(_) => say(b" ask go, commit"),
+                Decision::Wait => say(b" ask wait, commit"),
+                Decision::Collision => say(b" ask collision, commit"),
+            }
+            show_commit(t, plans, ends, run, ticket)
+        }
+    }
+}
+
+// The members asked one after the other, each on the run as the last commit left it.
+fn show_asks(t: &[u64], plans: &[u16], ends: &[u64], first: Numbered, picks: &[u8]) -> Numbered {
+    let mut run = first;
+    let mut k = 0;
+    while k < picks.len() {
+        run = show_ask(t, plans, ends, run, picks[k]);
+        k += 1;
+    }
+    run
+}
+
+// The dispatcher from the start, each pick asked for and then committed; at the end member 0's
+// ticket of the start, which is stale as soon as a pick was done.
+fn show_asked(law: u64, t: &[u64], plans: &[u16], ends: &[u64], picks: &[u8]) {
+    let s = run_dispatch::start(t);
+    let first = s.run;
+    asked(law, b" dispatcher, asked:");
+    let last = show_asks(t, plans, ends, first, picks);
+    say(b" first ticket, commit");
+    let ticket = Ticket {
+        member: 0,
+        change: 0,
+    };
+    let after = show_commit(t, plans, ends, last, ticket);
+    show_run(after);
+}
+
 // The same picks by joint replay and by the dispatcher.
 pub fn show_runs(law: u64, t: &[u64], plans: &[u16], ends: &[u64], picks: &[u8]) {
     show_replay(law, t, plans, ends, picks);
     show_picks(law, t, plans, ends, picks);
     show_list(law, t, plans, ends, picks);
+    show_asked(law, t, plans, ends, picks);
 }
 
-// A pick at the start, where fact 0 holds.
-pub fn show_pick(law: u64, t: &[u64], plans: &[u16], ends: &[u64], member: u8) {
-    asked(law, b" pick of member");
-    number(member as u64);
-    say(b" at the start:");
-    let start = Run {
+// Member 0's first step asked for and committed, where fact 0 holds, at a change number.
+pub fn show_change(law: u64, t: &[u64], plans: &[u16], ends: &[u64], change: u32) {
+    asked(law, b" at change number");
+    number(change as u64);
+    say(b":");
+    let run = Run {
         shared: Shared(mask::of_word(1)),
         places: [0; 8],
         closed: Closed::NotYet,
     };
-    let p = run_replay::pick(t, plans, ends, start, member);
+    let first = Numbered {
+        run: run,
+        change: change,
+    };
+    let after = show_ask(t, plans, ends, first, 0);
+    show_run(after);
+}
+
+// A pick at the start.
+pub fn show_pick(law: u64, t: &[u64], plans: &[u16], ends: &[u64], member: u8) {
+    asked(law, b" pick of member");
+    number(member as u64);
+    say(b" at the start:");
+    let s = run_dispatch::start(t);
+    let p = run_ticket::pick(t, plans, ends, s.run, member);
     let answer = p.answer;
     match answer {
         Answer::Refused(k) => refused(k),
         Answer::Gives(r) => match r {
             Reply::Collision => say(b" collision\n"),
             Reply::Go => {
-                let after = p.run;
+                let at = p.run;
+                let after = at.run;
                 let g = after.shared;
                 line(b" go", mask::to_word(g.0));
             }

@@ -1,6 +1,7 @@
 //! What the cases covered: how often each operation gave each answer and each refusal.
 
 use crate::case::{Checked, Class};
+use crate::operations::asked;
 use std::collections::BTreeMap;
 
 /// Counts by operation and class.
@@ -24,9 +25,12 @@ pub const ASKED: &[Asked] = &[
     ("lawcheck_solo_replay", &[0, 1, 2], &[1, 2, 3, 4, 5, 6, 7, 8, 10, 14]),
     ("lawcheck_solo_search", &[0, 1, 2], &[1, 2, 3, 4, 5, 6, 8, 9, 14]),
     ("lawcheck_joint_replay", &[0, 1, 2, 3, 4], &[1, 2, 3, 4, 5, 6, 7, 8, 10, 11, 12, 13, 14]),
-    ("lawcheck_pick", &[0, 1], &[1, 2, 3, 4, 5, 6, 7, 8, 10, 11, 12, 13, 14]),
+    ("lawcheck_pick", &[0, 1], &[1, 2, 3, 4, 5, 6, 7, 8, 10, 11, 12, 13, 14, 20]),
     ("lawcheck_start", &[0], &[1, 2, 3, 4, 5, 6, 14]),
-    ("lawcheck_play", &[0, 1, 8, 13], &[1, 2, 3, 4, 5, 6, 7, 10, 11, 12, 14]),
+    ("lawcheck_play", &[0, 1, 8, 13, 20], &[1, 2, 3, 4, 5, 6, 7, 10, 11, 12, 14]),
+    ("lawcheck_ask", &[0, 1, 2], &[1, 2, 3, 4, 5, 6, 7, 8, 10, 11, 12, 13, 14]),
+    ("lawcheck_commit", &[0, 1], &[1, 2, 3, 4, 5, 6, 7, 8, 10, 11, 12, 13, 14, 19, 20]),
+    (asked::NAME, &[0, 1, 8, 13, 19, 20], &[]),
     ("lawcheck_verdict", &[0, 1, 2, 3, 4], &[1, 2, 3, 4, 5, 6, 9, 14]),
     ("lawcheck_read", &[0], &[1, 2, 3, 4, 5, 6, 14, 15]),
 ];

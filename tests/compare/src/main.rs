@@ -1,7 +1,7 @@
 //! `compare [--pddl] [--cases N] [--seed S] [--threads T] [--case I]`
 //!
 //! LAWCHECK_CASES and LAWCHECK_SEED stand for `--cases` and `--seed`. `--pddl` runs the cases of
-//! laws in PDDL and not the others, a fifth as many. `--case` runs one case alone. The last line is
+//! laws in PDDL and not the others, a sixth as many. `--case` runs one case alone. The last line is
 //! 'N passed, M failed', and the exit status is 0 only where none failed, 2 where an argument is
 //! wrong.
 #![forbid(unsafe_code)]
@@ -48,7 +48,7 @@ fn main() -> ExitCode {
 fn asked(mut arguments: impl Iterator<Item = String>) -> Result<Asked, String> {
     let mut options = Options {
         seed: variable("LAWCHECK_SEED", 0)?.unwrap_or(1),
-        cases: variable("LAWCHECK_CASES", 1)?.unwrap_or(150_000),
+        cases: variable("LAWCHECK_CASES", 1)?.unwrap_or(192_000),
         threads: thread::available_parallelism().map_or(2, usize::from),
         stop: false,
     };
@@ -67,7 +67,7 @@ fn asked(mut arguments: impl Iterator<Item = String>) -> Result<Asked, String> {
             _ => return Err(format!("no such argument: {argument}\n{USAGE}")),
         }
     }
-    let usual = if pddl { options.cases.div_ceil(5) } else { options.cases };
+    let usual = if pddl { options.cases.div_ceil(6) } else { options.cases };
     options.cases = cases.unwrap_or(usual);
     Ok(Asked { options, pddl, alone })
 }

@@ -1,7 +1,6 @@
 //! The C interface as an implementation to check.
 
-use reference::interface::Interface;
-use reference::interface::Pddl;
+use reference::interface::{Interface, Pddl, Ticket};
 
 /// The library that is linked.
 pub struct Proved;
@@ -51,6 +50,31 @@ impl Interface for Proved {
         out: &mut [u64],
     ) -> u64 {
         lawcheck::raw::pick(task, plans, ends, run, member, out)
+    }
+
+    fn ask(
+        &self,
+        task: &[u64],
+        plans: &[u16],
+        ends: &[u64],
+        run: &mut [u64],
+        member: u8,
+        out: &mut [u64],
+    ) -> u64 {
+        lawcheck::raw::ask(task, plans, ends, run, member, out)
+    }
+
+    fn commit(
+        &self,
+        task: &[u64],
+        plans: &[u16],
+        ends: &[u64],
+        run: &mut [u64],
+        ticket: Ticket,
+        out: &mut [u64],
+    ) -> u64 {
+        let Ticket { member, change } = ticket;
+        lawcheck::raw::commit(task, plans, ends, run, member, change, out)
     }
 
     fn start(&self, task: &[u64], run: &mut [u64]) -> u64 {

@@ -5,8 +5,9 @@ mod listed;
 
 use compare::driver::{run, Options};
 use reference::fast::{copies, Fast, Task, DEAD};
-use reference::interface::{out_length, Interface};
+use reference::interface::{no_run, out_length, Interface, Ticket, CHANGE, LAST, RUN, SHARED};
 use reference::wrong;
+use std::cell::Cell;
 
 listed! {
     /// What is wrong.
@@ -53,13 +54,80 @@ listed! {
         PickCollidedNotNoted,
         PickCollidedTakenAsOne,
         PickAbsentPlacesCleared,
+        PickUncounted,
+        PickCollisionUncounted,
+        PickRefusedCounted,
+        PickRefusedRewritten,
+        PickWraps,
+        PickStaysAtTheLast,
+        PickLastTooEarly,
+        PickCollidesAtTheLast,
+        PickTenWords,
+        PickChangeCut,
+        AskCounts,
+        AskWaitingCounted,
+        AskMoves,
+        AskRefusedAtTheLast,
+        AskRefusesWaiting,
+        AskRefusesCollision,
+        AskClosedAnswered,
+        AskNoStepWaits,
+        AskWaitIsCollision,
+        AskCollisionIsWait,
+        AskCopyBefore,
+        AskCopyLost,
+        AskCopyWhereNone,
+        AskTicketAfterThePick,
+        AskTicketOfTheStart,
+        AskTicketCut,
+        AskTicketOfAnother,
+        AskTicketLostWhereWaiting,
+        AskThreeNumbers,
+        AskTenWords,
+        AskChangeCut,
+        CommitStaleTaken,
+        CommitOlderTaken,
+        CommitNewerTaken,
+        CommitLowHalfCompared,
+        CommitHighHalfCompared,
+        CommitLastAskedAlone,
+        CommitAfterAnAskAlone,
+        CommitUncounted,
+        CommitCollisionUncounted,
+        CommitCountsTwice,
+        CommitMovesNothing,
+        CommitWaitTaken,
+        CommitCollisionIsTwo,
+        CommitStaleCounted,
+        CommitRefusedRewritten,
+        CommitTicketTaken,
+        CommitWraps,
+        CommitStaysAtTheLast,
+        CommitLastTooEarly,
+        CommitNoNumber,
+        CommitTenWords,
+        CommitChangeCut,
         StartAbsentPlacesLeft,
         StartCollidedLeft,
         StartBeyondTheRun,
+        StartChangeLeft,
+        StartChangeRead,
+        StartTenWords,
         PlayStopsWherePassedOver,
         PlayAnswersBeyondThePicks,
         PlayCollidedLeft,
         PlayPicksAfterTheCollision,
+        PlayUncounted,
+        PlayCollisionUncounted,
+        PlayPassedOverCounted,
+        PlayWraps,
+        PlayStaysAtTheLast,
+        PlayLastTooEarly,
+        PlayEndsAtTheLast,
+        PlayRefusedAtTheLast,
+        PlayImpossibleAtTheLast,
+        PlayTenWords,
+        PlayChangeCut,
         VerdictRobust,
         VerdictCountOff,
         VerdictNineFirst,
@@ -76,7 +144,37 @@ listed! {
 }
 use Broken::*;
 
+thread_local! {
+    /// The ticket that was asked for last, for those that remember it.
+    static ASKED: Cell<Option<Ticket>> = const { Cell::new(None) };
+}
+
+/// A call on other words than those of the lent run, which gets what an answer leaves, as far as it
+/// goes.
+fn on_words(run: &mut [u64], words: Vec<u64>, call: impl FnOnce(&mut [u64]) -> u64) -> u64 {
+    let (length, mut words) = (run.len(), words);
+    let refusal = call(&mut words);
+    if refusal == 0 {
+        run.copy_from_slice(&words[..length]);
+    }
+    refusal
+}
+
 impl Broken {
+    /// What one of these takes in place of a run that is refused: ten words, or a change number of
+    /// more than 32 bits.
+    fn taken(self, [ten, cut]: [Broken; 2], run: &[u64]) -> Option<Vec<u64>> {
+        let mut words = run.to_vec();
+        if self == ten && run.len() == RUN - 1 {
+            words.push(0);
+        } else if self == cut && run.len() >= RUN && no_run(run) {
+            words[CHANGE] &= u64::from(LAST);
+        } else {
+            return None;
+        }
+        Some(words)
+    }
+
     /// Writes to `out` where that is wrong.
     fn refused(self, refusal: u64, out: &mut [u64]) -> u64 {
         match (self, refusal) {
@@ -85,6 +183,18 @@ impl Broken {
             _ => {}
         }
         refusal
+    }
+
+    /// Counts other picks than those that were done.
+    fn miscount_played(self, run: &mut [u64], before: &[u64], told: &[u64]) {
+        match self {
+            PlayUncounted => run[CHANGE] = before[CHANGE],
+            PlayCollisionUncounted => run[CHANGE] -= u64::from(told.contains(&1)),
+            PlayPassedOverCounted => {
+                run[CHANGE] = (before[CHANGE] + told.len() as u64).min(u64::from(LAST));
+            }
+            _ => {}
+        }
     }
 
     /// Tells another number of marks, or loses those of a sweep. `lent` are the marks at entry,
@@ -268,12 +378,175 @@ impl Interface for Broken {
         if *self == PickCollidedTakenAsOne && run.first().is_some_and(|&word| word > 1) {
             run[0] = 0;
         }
+        if let Some(words) = self.taken([PickTenWords, PickChangeCut], run) {
+            return on_words(run, words, |run| Fast.pick(task, plans, ends, run, member, out));
+        }
         let refusal = Fast.pick(task, plans, ends, run, member, out);
         match (self, refusal) {
             (PickMovesNothing, 0) if out[0] == 0 => run.copy_from_slice(&before),
             (PickCollidedNotNoted, 0) => run[0] = 0,
-            (PickAbsentPlacesCleared, 0) => run[1 + task[1] as usize..9].fill(0),
+            (PickAbsentPlacesCleared, 0) => run[1 + task[1] as usize..SHARED].fill(0),
             (PickCollidedTakenAsOne, 1..) => run.copy_from_slice(&before),
+            (PickUncounted, 0) => run[CHANGE] -= 1,
+            (PickCollisionUncounted, 0) => run[CHANGE] -= out[0],
+            (PickRefusedCounted, 13) => run[CHANGE] += 1,
+            (PickRefusedRewritten, 13) => run[0] = run[0].min(1),
+            (PickWraps | PickStaysAtTheLast, 20) => {
+                run[CHANGE] = 0;
+                Fast.pick(task, plans, ends, run, member, out);
+                run[CHANGE] = if *self == PickWraps { 0 } else { u64::from(LAST) };
+                return 0;
+            }
+            (PickLastTooEarly, 0) if run[CHANGE] == u64::from(LAST) => {
+                run.copy_from_slice(&before);
+                return 20;
+            }
+            (PickCollidesAtTheLast, 20) => {
+                run[CHANGE] = 0;
+                Fast.pick(task, plans, ends, run, member, out);
+                if out[0] == 0 {
+                    run.copy_from_slice(&before);
+                    return 20;
+                }
+                run[CHANGE] = u64::from(LAST);
+                return 0;
+            }
+            _ => {}
+        }
+        self.refused(refusal, out)
+    }
+
+    fn ask(
+        &self,
+        task: &[u64],
+        plans: &[u16],
+        ends: &[u64],
+        run: &mut [u64],
+        member: u8,
+        out: &mut [u64],
+    ) -> u64 {
+        if let Some(mut words) = self.taken([AskTenWords, AskChangeCut], run) {
+            return Fast.ask(task, plans, ends, &mut words, member, out);
+        }
+        if *self == AskThreeNumbers && out.len() == 3 {
+            let mut four = [0; out_length::ASK];
+            let refusal = Fast.ask(task, plans, ends, run, member, &mut four);
+            if refusal == 0 {
+                out.copy_from_slice(&four[..3]);
+            }
+            return refusal;
+        }
+        let refusal = Fast.ask(task, plans, ends, run, member, out);
+        if refusal == 0 {
+            ASKED.set(Some(Ticket { member, change: run[CHANGE] as u32 }));
+        }
+        match (self, refusal) {
+            (AskCounts, 0) if run[CHANGE] < u64::from(LAST) => run[CHANGE] += 1,
+            (AskWaitingCounted, 0) if out[0] == 1 => run[CHANGE] += 1,
+            (AskMoves, 0) => {
+                Fast.pick(task, plans, ends, run, member, &mut [0]);
+            }
+            (AskRefusedAtTheLast, 0) if run[CHANGE] == u64::from(LAST) => return 20,
+            (AskRefusesWaiting, 0) if out[0] == 1 => return 13,
+            (AskRefusesCollision, 0) if out[0] == 2 => return 13,
+            (AskClosedAnswered, 13) => {
+                let mut open = run.to_vec();
+                open[0] = 0;
+                return Fast.ask(task, plans, ends, &mut open, member, out);
+            }
+            (AskNoStepWaits, 13) if run[0] == 0 => {
+                let change = run[CHANGE];
+                out[..4].copy_from_slice(&[1, 0, u64::from(member), change]);
+                return 0;
+            }
+            (AskWaitIsCollision, 0) if out[0] == 1 => out[0] = 2,
+            (AskCollisionIsWait, 0) if out[0] == 2 => out[0] = 1,
+            (AskCopyBefore, 0) if out[0] == 0 => out[1] = run[SHARED],
+            (AskCopyLost, 0) => out[1] = 0,
+            (AskCopyWhereNone, 0) if out[0] != 0 => out[1] = run[SHARED],
+            (AskTicketAfterThePick, 0) => out[3] += 1,
+            (AskTicketOfTheStart, 0) => out[3] = 0,
+            (AskTicketCut, 0) => out[3] &= 0xffff,
+            (AskTicketOfAnother, 0) => out[2] ^= 1,
+            (AskTicketLostWhereWaiting, 0) if out[0] == 1 => out[2..4].fill(0),
+            _ => {}
+        }
+        self.refused(refusal, out)
+    }
+
+    fn commit(
+        &self,
+        task: &[u64],
+        plans: &[u16],
+        ends: &[u64],
+        run: &mut [u64],
+        ticket: Ticket,
+        out: &mut [u64],
+    ) -> u64 {
+        let before = run.to_vec();
+        if let Some(words) = self.taken([CommitTenWords, CommitChangeCut], run) {
+            return on_words(run, words, |run| Fast.commit(task, plans, ends, run, ticket, out));
+        }
+        if *self == CommitNoNumber && out.is_empty() {
+            return Fast.commit(task, plans, ends, run, ticket, &mut [0]);
+        }
+        let refusal = Fast.commit(task, plans, ends, run, ticket, out);
+        let last = ASKED.take();
+        match (self, refusal) {
+            (
+                CommitStaleTaken
+                | CommitOlderTaken
+                | CommitNewerTaken
+                | CommitLowHalfCompared
+                | CommitHighHalfCompared,
+                19,
+            ) => {
+                let now = run[CHANGE] as u32;
+                let taken = match self {
+                    CommitOlderTaken => ticket.change < now,
+                    CommitNewerTaken => ticket.change > now,
+                    CommitLowHalfCompared => (ticket.change ^ now) & 0xffff == 0,
+                    CommitHighHalfCompared => (ticket.change ^ now) >> 16 == 0,
+                    _ => true,
+                };
+                if taken {
+                    return Fast.pick(task, plans, ends, run, ticket.member, out);
+                }
+            }
+            (CommitLastAskedAlone, 0) if last.is_some_and(|last| last != ticket) => {
+                run.copy_from_slice(&before);
+                return 19;
+            }
+            (CommitAfterAnAskAlone, 0) if last != Some(ticket) => {
+                run.copy_from_slice(&before);
+                return 19;
+            }
+            (CommitUncounted, 0) => run[CHANGE] -= 1,
+            (CommitCollisionUncounted, 0) => run[CHANGE] -= out[0],
+            (CommitCountsTwice, 0) => run[CHANGE] += 1,
+            (CommitMovesNothing, 0) => run[..CHANGE].copy_from_slice(&before[..CHANGE]),
+            (CommitWaitTaken, 13) => {
+                let mut asked = [0; out_length::ASK];
+                let refusal = Fast.ask(task, plans, ends, run, ticket.member, &mut asked);
+                if refusal == 0 {
+                    out[0] = 0;
+                    return 0;
+                }
+            }
+            (CommitCollisionIsTwo, 0) => out[0] *= 2,
+            (CommitStaleCounted, 19) => run[CHANGE] += 1,
+            (CommitRefusedRewritten, 13 | 19) => run[0] = run[0].min(1),
+            (CommitTicketTaken, 19) => run[CHANGE] = u64::from(ticket.change),
+            (CommitWraps | CommitStaysAtTheLast, 20) => {
+                run[CHANGE] = 0;
+                Fast.pick(task, plans, ends, run, ticket.member, out);
+                run[CHANGE] = if *self == CommitWraps { 0 } else { u64::from(LAST) };
+                return 0;
+            }
+            (CommitLastTooEarly, 0) if run[CHANGE] == u64::from(LAST) => {
+                run.copy_from_slice(&before);
+                return 20;
+            }
             _ => {}
         }
         self.refused(refusal, out)
@@ -281,14 +554,21 @@ impl Interface for Broken {
 
     fn start(&self, task: &[u64], run: &mut [u64]) -> u64 {
         let before = run.to_vec();
+        if let Some(words) = self.taken([StartTenWords, StartTenWords], run) {
+            return on_words(run, words, |run| Fast.start(task, run));
+        }
+        if *self == StartChangeRead && no_run(run) {
+            return 14;
+        }
         let refusal = Fast.start(task, run);
         match (self, refusal) {
+            (StartChangeLeft, 0) => run[CHANGE] = before[CHANGE],
             (StartAbsentPlacesLeft, 0) => {
-                let absent = 1 + task[1] as usize..9;
+                let absent = 1 + task[1] as usize..SHARED;
                 run[absent.clone()].copy_from_slice(&before[absent]);
             }
             (StartCollidedLeft, 0) => run[0] = before[0],
-            (StartBeyondTheRun, 0) => run[10..].fill(0),
+            (StartBeyondTheRun, 0) => run[RUN..].fill(0),
             _ => {}
         }
         refusal
@@ -303,7 +583,10 @@ impl Interface for Broken {
         picks: &[u8],
         answers: &mut [u64],
     ) -> u64 {
-        let collided = run.first().copied();
+        let (before, told) = (run.to_vec(), answers.to_vec());
+        if let Some(words) = self.taken([PlayTenWords, PlayChangeCut], run) {
+            return on_words(run, words, |run| Fast.play(task, plans, ends, run, picks, answers));
+        }
         if *self == PlayStopsWherePassedOver && answers.len() >= picks.len() {
             let mut told = vec![0; picks.len()];
             Fast.play(task, plans, ends, &mut run.to_vec(), picks, &mut told);
@@ -311,9 +594,43 @@ impl Interface for Broken {
             return Fast.play(task, plans, ends, run, &picks[..until], answers);
         }
         let refusal = Fast.play(task, plans, ends, run, picks, answers);
+        if refusal == 0 {
+            self.miscount_played(run, &before, &answers[..picks.len()]);
+        }
+        // Where the first pick stands that the last change number refuses.
+        let last = answers.iter().take(picks.len()).position(|&answer| answer == 20);
+        match (self, refusal, last) {
+            (PlayWraps | PlayStaysAtTheLast, 0, Some(last)) => {
+                run[CHANGE] = 0;
+                Fast.play(task, plans, ends, run, &picks[last..], &mut answers[last..]);
+                let wrapped = run[CHANGE] - 1;
+                run[CHANGE] = if *self == PlayWraps { wrapped } else { u64::from(LAST) };
+            }
+            (PlayLastTooEarly, 0, _) if run[CHANGE] == u64::from(LAST) => {
+                let done = answers[..picks.len()].iter().rposition(|&answer| answer <= 1);
+                if let Some(done) = done {
+                    run.copy_from_slice(&before);
+                    Fast.play(task, plans, ends, run, &picks[..done], answers);
+                    answers[done] = 20;
+                }
+            }
+            (PlayEndsAtTheLast, 0, Some(last)) => {
+                answers[last + 1..].copy_from_slice(&told[last + 1..]);
+            }
+            (PlayRefusedAtTheLast, 0, Some(_)) => {
+                run.copy_from_slice(&before);
+                answers.copy_from_slice(&told);
+                return 20;
+            }
+            (PlayImpossibleAtTheLast, 0, Some(last)) => {
+                let after = answers[last..picks.len()].iter_mut();
+                after.filter(|answer| **answer == 20).for_each(|answer| *answer = 13);
+            }
+            _ => {}
+        }
         match (self, refusal) {
             (PlayAnswersBeyondThePicks, 0) => answers[picks.len()..].fill(0),
-            (PlayCollidedLeft, 0) => run[0] = collided.unwrap_or(0),
+            (PlayCollidedLeft, 0) => run[0] = before[0],
             (PlayPicksAfterTheCollision, 0) if run[0] == 1 => {
                 let collision = answers[..picks.len()].iter().position(|&answer| answer == 1);
                 let after = collision.map_or(picks.len(), |collision| collision + 1);

@@ -6,7 +6,7 @@ mod listed;
 
 use compare::driver::{run, Options};
 use reference::fast::Fast;
-use reference::interface::Interface;
+use reference::interface::{no_run, Interface, Ticket, CHANGE, LAST, RUN, SHARED};
 
 listed! {
     /// The pair that is exchanged: the second stands before the first in the paper.
@@ -34,9 +34,39 @@ listed! {
         MemberThenPlace,
         ImpossibleThenMember,
         ImpossibleThenPlace,
+        TaskThenChange,
+        ChangesThenPlace,
+        ChangesThenMember,
+        ChangesThenImpossible,
+        AskTaskThenOut,
+        AskTaskThenChange,
+        AskSharedThenPlans,
+        AskPlaceThenShared,
+        AskMemberThenPlace,
+        AskImpossibleThenPlace,
+        AskImpossibleThenMember,
+        CommitTaskThenOut,
+        CommitTaskThenChange,
+        CommitSharedThenPlans,
+        CommitPlaceThenShared,
+        CommitMemberThenPlace,
+        CommitStaleThenPlans,
+        CommitStaleThenShared,
+        CommitStaleThenPlace,
+        CommitStaleThenMember,
+        CommitImpossibleThenPlace,
+        CommitImpossibleThenMember,
+        CommitImpossibleThenStale,
+        CommitChangesThenMember,
+        CommitChangesThenStale,
+        CommitChangesThenImpossible,
         TaskThenRun,
         TaskThenAnswers,
+        TaskThenChangeOfPlay,
         PlacesThenSharedOfPlay,
+        ImpossibleThenMemberOfPlay,
+        ChangesThenMemberOfPlay,
+        ChangesThenImpossibleOfPlay,
         FullThenSlices,
         UnsolvableThenFull,
         TextThenWords,
@@ -182,7 +212,11 @@ impl Interface for Exchanged {
         out: &mut [u64],
     ) -> u64 {
         let refusal = Fast.pick(task, plans, ends, run, member, out);
-        if refusal == 0 || Fast.task(task) != 0 || run.len() < 10 {
+        let whole = run.len() >= RUN && !out.is_empty();
+        if *self == TaskThenChange && refusal == 14 && whole && Fast.task(task) != 0 {
+            return Fast.task(task);
+        }
+        if refusal == 0 || Fast.task(task) != 0 || no_run(run) {
             return refusal;
         }
         // What would be refused if one fault were not there.
@@ -191,12 +225,95 @@ impl Interface for Exchanged {
             run[place] = word;
             Fast.pick(task, plans, ends, &mut run, member, &mut [0])
         };
+        let last = run[CHANGE] == u64::from(LAST);
         match (self, refusal) {
-            (PlaceThenShared, 4) if without(9, 0, member) == 11 => 11,
-            (SharedThenPlans, 7 | 10 | 12) if exceeds(task, run[9]) => 4,
+            (PlaceThenShared, 4) if without(SHARED, 0, member) == 11 => 11,
+            (SharedThenPlans, 7 | 10 | 12) if exceeds(task, run[SHARED]) => 4,
             (MemberThenPlace, 11) if member as u64 >= task[1] => 8,
             (ImpossibleThenMember, 8) if run[0] != 0 => 13,
             (ImpossibleThenPlace, 11) if run[0] != 0 => 13,
+            (ChangesThenPlace, 11) | (ChangesThenMember, 8) | (ChangesThenImpossible, 13)
+                if last =>
+            {
+                20
+            }
+            _ => refusal,
+        }
+    }
+
+    fn ask(
+        &self,
+        task: &[u64],
+        plans: &[u16],
+        ends: &[u64],
+        run: &mut [u64],
+        member: u8,
+        out: &mut [u64],
+    ) -> u64 {
+        let refusal = Fast.ask(task, plans, ends, run, member, out);
+        match (self, refusal, Fast.task(task)) {
+            (AskTaskThenOut, 14, task @ 1..) if !no_run(run) => return task,
+            (AskTaskThenChange, 14, task @ 1..) if run.len() >= RUN && out.len() >= 4 => {
+                return task;
+            }
+            (_, 1.., 0) if !no_run(run) => {}
+            _ => return refusal,
+        }
+        let shared_alone = |refused: u64| {
+            let mut run = run.to_vec();
+            run[SHARED] = 0;
+            Fast.ask(task, plans, ends, &mut run, member, &mut [0; 4]) == refused
+        };
+        match (self, refusal) {
+            (AskSharedThenPlans, 7 | 10..=12) if exceeds(task, run[SHARED]) => 4,
+            (AskPlaceThenShared, 4) if shared_alone(11) => 11,
+            (AskMemberThenPlace, 11) if member as u64 >= task[1] => 8,
+            (AskImpossibleThenPlace, 11) if run[0] != 0 => 13,
+            (AskImpossibleThenMember, 8) if run[0] != 0 => 13,
+            _ => refusal,
+        }
+    }
+
+    fn commit(
+        &self,
+        task: &[u64],
+        plans: &[u16],
+        ends: &[u64],
+        run: &mut [u64],
+        ticket: Ticket,
+        out: &mut [u64],
+    ) -> u64 {
+        let refusal = Fast.commit(task, plans, ends, run, ticket, out);
+        match (self, refusal, Fast.task(task)) {
+            (CommitTaskThenOut, 14, task @ 1..) if !no_run(run) => return task,
+            (CommitTaskThenChange, 14, task @ 1..) if run.len() >= RUN && !out.is_empty() => {
+                return task;
+            }
+            (_, 1.., 0) if !no_run(run) => {}
+            _ => return refusal,
+        }
+        // A plain pick of the member, with another shared copy or without one that is wrong.
+        let pick = |shared: u64| {
+            let mut run = run.to_vec();
+            run[SHARED] = shared;
+            Fast.pick(task, plans, ends, &mut run, ticket.member, &mut [0])
+        };
+        let (shared, now) = (run[SHARED], run[CHANGE]);
+        let (stale, last) = (u64::from(ticket.change) != now, now == u64::from(LAST));
+        match (self, refusal) {
+            (CommitSharedThenPlans, 7 | 10..=12) if exceeds(task, shared) => 4,
+            (CommitPlaceThenShared, 4) if pick(0) == 11 => 11,
+            (CommitMemberThenPlace, 11) if ticket.member as u64 >= task[1] => 8,
+            (CommitStaleThenPlans, 7 | 10 | 12) if stale => 19,
+            (CommitStaleThenShared, 4) if stale => 19,
+            (CommitStaleThenPlace, 11) if stale => 19,
+            (CommitStaleThenMember, 8) if stale => 19,
+            (CommitImpossibleThenPlace, 11) if run[0] != 0 => 13,
+            (CommitImpossibleThenMember, 8) if run[0] != 0 => 13,
+            (CommitImpossibleThenStale, 19) if pick(shared) == 13 => 13,
+            (CommitChangesThenMember, 8) if last => 20,
+            (CommitChangesThenStale, 19) if pick(shared) == 20 => 20,
+            (CommitChangesThenImpossible, 13) if last => 20,
             _ => refusal,
         }
     }
@@ -217,18 +334,38 @@ impl Interface for Exchanged {
         picks: &[u8],
         answers: &mut [u64],
     ) -> u64 {
-        match (self, Fast.play(task, plans, ends, run, picks, answers)) {
-            (TaskThenAnswers, 14) if run.len() >= 10 && Fast.task(task) != 0 => Fast.task(task),
-            (PlacesThenSharedOfPlay, 4) if Fast.task(task) == 0 => {
+        let refusal = Fast.play(task, plans, ends, run, picks, answers);
+        let refused = Fast.task(task);
+        match (self, refusal) {
+            (TaskThenAnswers, 14) if !no_run(run) && refused != 0 => return refused,
+            (TaskThenChangeOfPlay, 14)
+                if run.len() >= RUN && answers.len() >= picks.len() && refused != 0 =>
+            {
+                return refused;
+            }
+            (PlacesThenSharedOfPlay, 4) if refused == 0 => {
                 let mut run = run.to_vec();
-                run[9] = 0;
-                match Fast.play(task, plans, ends, &mut run, &[], &mut []) {
-                    11 => 11,
-                    _ => 4,
+                run[SHARED] = 0;
+                if Fast.play(task, plans, ends, &mut run, &[], &mut []) == 11 {
+                    return 11;
                 }
             }
-            (_, refusal) => refusal,
+            _ => {}
         }
+        if refusal == 0 {
+            let told = &mut answers[..picks.len()];
+            let (closed, last) = (run[0] == 1, run[CHANGE] == u64::from(LAST));
+            // From there on the run is closed, or at the last change number.
+            let done = told.iter().rposition(|&answer| answer <= 1).map_or(0, |done| done + 1);
+            for answer in &mut told[done..] {
+                *answer = match (self, *answer) {
+                    (ImpossibleThenMemberOfPlay, 8) if closed => 13,
+                    (ChangesThenMemberOfPlay, 8) | (ChangesThenImpossibleOfPlay, 13) if last => 20,
+                    (_, told) => told,
+                };
+            }
+        }
+        refusal
     }
 
     fn verdict(

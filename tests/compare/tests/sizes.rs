@@ -1,6 +1,6 @@
 //! The comparison finds implementations that are wrong from a size on: the fast twin with one wrong
 //! thing in each, for each quantity that an answer, an index or a loop counts, from 8, 16, 64, 256
-//! and 1024 on.
+//! and 1024 on, for change numbers also from 2^16, 2^24 and 2^31 on.
 
 #[macro_use]
 mod listed;
@@ -8,9 +8,9 @@ mod listed;
 use compare::driver::{one, Summary};
 use compare::operations::sizes;
 use reference::fast::{copies, count_configurations, read_words, Copies, Fast, Task, DEAD};
-use reference::interface::Interface;
+use reference::interface::{Interface, Ticket, CHANGE, LAST, SHARED};
 use std::collections::BTreeMap;
-use std::sync::atomic::{AtomicU64, Ordering};
+use std::sync::atomic::{AtomicU64, AtomicUsize, Ordering};
 use std::sync::Mutex;
 use std::thread;
 
@@ -55,11 +55,32 @@ listed! {
         PickImpossible,
         PickPastEnd,
         PickEntries,
+        PickChange,
+        AskMember,
+        AskFact,
+        AskPlace,
+        AskWait,
+        AskCollision,
+        AskImpossible,
+        AskPastEnd,
+        AskEntries,
+        AskChange,
+        CommitMember,
+        CommitPlace,
+        CommitCollision,
+        CommitImpossible,
+        CommitPastEnd,
+        CommitEntries,
+        CommitChange,
+        CommitStale,
+        Calls,
         StartFact,
         PlayPicks,
         PlayPlace,
         PlayCollision,
         PlayPassedOver,
+        PlayChange,
+        PlayLast,
         VerdictMembers,
         VerdictActions,
         VerdictUnsolvable,
@@ -96,14 +117,15 @@ impl Quantity {
     fn most(self) -> usize {
         match self {
             TaskGoalRow | SoloMember | SearchMember | JointMembers | JointMissedMember
-            | PickMember | VerdictMembers | VerdictUnsolvable | VerdictMissedMember => 8,
+            | PickMember | AskMember | CommitMember | VerdictMembers | VerdictUnsolvable
+            | VerdictMissedMember => 8,
             ReadDigits => 20,
-            TaskFacts | StepFact | StartFact => 64,
+            TaskFacts | StepFact | StartFact | AskFact => 64,
             TaskActionRow | StepAction | SoloAction | VerdictActions | VerdictAction => 256,
             ReadRecords | ReadBadRecord => 265,
             ReadWords => 1325,
             VerdictCollision | VerdictDeadlock | VerdictPlan | VerdictEntries | VerdictPick
-            | VerdictMove | VerdictRest => 1024,
+            | VerdictMove | VerdictRest | Calls => 1024,
             VerdictMissed => 2048,
             SearchRows | SearchTable | SearchMarks | SearchMarked | SearchDistance
             | SearchCleared | SearchFull | VerdictCopies | VerdictMarks | VerdictOffset
@@ -113,21 +135,30 @@ impl Quantity {
             SoloSteps | SoloBreak | SoloBadEntry | JointPicks | JointSuccess | JointCollision
             | JointDeadlock | JointMissed | JointOpen | JointEntries | JointPlan
             | JointUnsolved | JointBadEntry | JointBadPick | PickPlace | PickCollision
-            | PickImpossible | PickPastEnd | PickEntries | PlayPicks | PlayPlace
-            | PlayCollision | PlayPassedOver => 65_536,
+            | PickImpossible | PickPastEnd | PickEntries | AskPlace | AskWait | AskCollision
+            | AskImpossible | AskPastEnd | AskEntries | CommitPlace | CommitCollision
+            | CommitImpossible | CommitPastEnd | CommitEntries | PlayPicks | PlayPlace
+            | PlayCollision | PlayPassedOver | PlayLast => 65_536,
+            PickChange | AskChange | CommitChange | CommitStale | PlayChange => CHANGES,
         }
     }
 }
 
-/// The sizes from which on a twin is wrong.
+/// The last change number.
+const CHANGES: usize = LAST as usize;
+
+/// The sizes from which on a twin is wrong, and those for change numbers alone.
 const FROM: [usize; 5] = [8, 16, 64, 256, 1024];
+const FROM_CHANGES: [usize; 3] = [1 << 16, 1 << 24, 1 << 31];
 
 type Wrong = (Quantity, usize);
 
 /// Every twin that has to be found.
 fn wrong_twins() -> Vec<Wrong> {
     let from = |&quantity: &Quantity| {
+        let changes = FROM_CHANGES.into_iter().filter(move |_| quantity.most() == CHANGES);
         FROM.into_iter()
+            .chain(changes)
             .filter(move |&from| from <= quantity.most())
             .map(move |from| (quantity, from))
     };
@@ -140,11 +171,19 @@ fn wrong_twins() -> Vec<Wrong> {
 struct Twin {
     wrong: Option<Wrong>,
     met: Mutex<BTreeMap<Quantity, usize>>,
+    /// Asks and commits so far.
+    calls: AtomicUsize,
 }
 
 impl Twin {
     fn wrong(wrong: Wrong) -> Twin {
-        Twin { wrong: Some(wrong), met: Mutex::default() }
+        Twin { wrong: Some(wrong), ..Twin::default() }
+    }
+
+    /// One more ask or commit: whether it is wrong.
+    fn called(&self) -> bool {
+        let calls = 1 + self.calls.fetch_add(1, Ordering::Relaxed);
+        self.at(Calls, calls)
     }
 
     /// Whether the answer is wrong at this size.
@@ -181,6 +220,17 @@ fn longest(ends: &[u64]) -> (usize, usize) {
     let begins = std::iter::once(0).chain(ends.iter().copied());
     let lengths = ends.iter().zip(begins).map(|(end, begin)| (end.saturating_sub(begin)) as usize);
     lengths.enumerate().max_by_key(|&(_, length)| length).unwrap_or((0, 0))
+}
+
+/// The length of the first plan that a run's place is past the end of.
+fn passed(plans: &[u16], ends: &[u64], run: &[u64]) -> Option<usize> {
+    if !ends.is_sorted() || ends.last() != Some(&(plans.len() as u64)) {
+        return None;
+    }
+    let begins = std::iter::once(0).chain(ends.iter().copied());
+    let lengths = ends.iter().zip(begins).map(|(end, begin)| end - begin);
+    let past = lengths.zip(&run[1..]).find(|(length, &place)| place > *length);
+    past.map(|(length, _)| length as usize)
 }
 
 /// The action after this one that does the same.
@@ -395,13 +445,102 @@ impl Interface for Twin {
                 if self.at(PickMember, place) || self.at(PickEntries, plans.len()) {
                     run.copy_from_slice(&before);
                 }
+                if self.at(PickChange, before[CHANGE] as usize) {
+                    run[CHANGE] = before[CHANGE];
+                }
             }
             13 if self.at(PickImpossible, run[place] as usize) => return 8,
-            11 if ends.is_sorted() && ends.last() == Some(&(plans.len() as u64)) => {
-                let begins = std::iter::once(0).chain(ends.iter().copied());
-                let lengths = ends.iter().zip(begins).map(|(end, begin)| end - begin);
-                let past = lengths.zip(&run[1..]).find(|(length, &place)| place > *length);
-                if past.is_some_and(|(length, _)| self.at(PickPastEnd, length as usize)) {
+            20 if self.at(PickChange, CHANGES) => return 13,
+            11 => {
+                let past = passed(plans, ends, run);
+                if past.is_some_and(|length| self.at(PickPastEnd, length)) {
+                    return 13;
+                }
+            }
+            _ => {}
+        }
+        refusal
+    }
+
+    fn ask(
+        &self,
+        task: &[u64],
+        plans: &[u16],
+        ends: &[u64],
+        run: &mut [u64],
+        member: u8,
+        out: &mut [u64],
+    ) -> u64 {
+        let late = self.called();
+        let refusal = Fast.ask(task, plans, ends, run, member, out);
+        let place = 1 + member as usize;
+        match refusal {
+            0 => {
+                let at = run[place] as usize;
+                if out[0] == 0 && out[1] != 0 && self.at(AskFact, facts(out[1])) {
+                    out[1] = without_highest(out[1]);
+                }
+                let kinds = [AskPlace, AskWait, AskCollision];
+                if self.at(kinds[out[0] as usize], at) || late {
+                    out[0] = (out[0] + 1) % 3;
+                }
+                if self.at(AskMember, place) || self.at(AskEntries, plans.len()) {
+                    out[2] += 1;
+                }
+                if self.at(AskChange, out[3] as usize) {
+                    out[3] -= 1;
+                }
+            }
+            13 if self.at(AskImpossible, run[place] as usize) => return 8,
+            11 => {
+                let past = passed(plans, ends, run);
+                if past.is_some_and(|length| self.at(AskPastEnd, length)) {
+                    return 13;
+                }
+            }
+            _ => {}
+        }
+        refusal
+    }
+
+    fn commit(
+        &self,
+        task: &[u64],
+        plans: &[u16],
+        ends: &[u64],
+        run: &mut [u64],
+        ticket: Ticket,
+        out: &mut [u64],
+    ) -> u64 {
+        let (before, late) = (run.to_vec(), self.called());
+        let refusal = Fast.commit(task, plans, ends, run, ticket, out);
+        let place = 1 + ticket.member as usize;
+        match refusal {
+            0 => {
+                if out[0] == 0 && self.at(CommitPlace, run[place] as usize) {
+                    run[place] -= 1;
+                }
+                if out[0] == 1 && self.at(CommitCollision, run[place] as usize) {
+                    out[0] = 0;
+                }
+                if self.at(CommitMember, place) || self.at(CommitEntries, plans.len()) {
+                    run.copy_from_slice(&before);
+                }
+                if self.at(CommitChange, before[CHANGE] as usize) || late {
+                    run[CHANGE] = before[CHANGE];
+                }
+            }
+            13 if self.at(CommitImpossible, run[place] as usize) => return 8,
+            19 => {
+                let apart = run[CHANGE] ^ u64::from(ticket.change);
+                if self.at(CommitStale, apart as usize) {
+                    return Fast.pick(task, plans, ends, run, ticket.member, out);
+                }
+            }
+            20 if self.at(CommitChange, CHANGES) => return 13,
+            11 => {
+                let past = passed(plans, ends, run);
+                if past.is_some_and(|length| self.at(CommitPastEnd, length)) {
                     return 13;
                 }
             }
@@ -412,8 +551,8 @@ impl Interface for Twin {
 
     fn start(&self, task: &[u64], run: &mut [u64]) -> u64 {
         let refusal = Fast.start(task, run);
-        if refusal == 0 && run[9] != 0 && self.at(StartFact, facts(run[9])) {
-            run[9] = without_highest(run[9]);
+        if refusal == 0 && run[SHARED] != 0 && self.at(StartFact, facts(run[SHARED])) {
+            run[SHARED] = without_highest(run[SHARED]);
         }
         refusal
     }
@@ -427,11 +566,20 @@ impl Interface for Twin {
         picks: &[u8],
         answers: &mut [u64],
     ) -> u64 {
+        let change = run.get(CHANGE).copied();
         let refusal = Fast.play(task, plans, ends, run, picks, answers);
         if refusal != 0 {
             return refusal;
         }
         let told = &mut answers[..picks.len()];
+        if let Some(change) = change.filter(|&change| self.at(PlayChange, change as usize)) {
+            run[CHANGE] = change;
+        }
+        if let Some(last) = told.iter().position(|&answer| answer == 20) {
+            if self.at(PlayLast, last + 1) {
+                told[last] = 0;
+            }
+        }
         if let Some(collision) = told.iter().position(|&answer| answer == 1) {
             if self.at(PlayCollision, collision) {
                 told[collision] = 0;

@@ -3,8 +3,8 @@
 
 use compare as _;
 use lawcheck::{
-    check, joint_replay, raw, read, solo_replay, solo_search, step, verdict, Outcome, Picked,
-    Refusal, Replay, Room, Run, SoloReplay, SoloSearch, Step, Verdict,
+    check, joint_replay, raw, read, solo_replay, solo_search, step, verdict, Asked, Outcome,
+    Picked, Refusal, Replay, Room, Run, SoloReplay, SoloSearch, Step, Ticket, Verdict,
 };
 use reference::generate::text::of_words;
 use reference::laws;
@@ -12,10 +12,15 @@ use reference::laws;
 #[test]
 fn the_constants_are_the_headers() {
     let header = include_str!("../../../include/lawcheck.h");
+    let defined = |part: &'static str| {
+        let (name, number) = part.strip_prefix("#define LAWCHECK_")?.split_once(" UINT32_C(")?;
+        Some((name, number.trim_end_matches(')')))
+    };
     let mut told: Vec<(String, u64)> = header
         .split(['{', ',', '\n'])
         .filter_map(|part| {
-            part.trim().trim_end_matches("};").strip_prefix("LAWCHECK_")?.split_once(" = ")
+            let constant = part.trim().trim_end_matches("};").strip_prefix("LAWCHECK_");
+            constant.and_then(|constant| constant.split_once(" = ")).or_else(|| defined(part))
         })
         .map(|(name, rest)| {
             (name.to_string(), rest.split(' ').next().unwrap().parse().expect(name))
@@ -31,13 +36,13 @@ fn the_constants_are_the_headers() {
 
 #[test]
 fn a_refusal_is_its_number() {
-    for number in 1..=18 {
-        let refusal = Refusal::of(number).expect("1 to 18 are refusals");
+    for number in 1..=20 {
+        let refusal = Refusal::of(number).expect("1 to 20 are refusals");
         assert_eq!(refusal.number(), number);
         assert!(refusal.to_string().starts_with(&format!("refused, {number}: ")), "{refusal}");
     }
-    assert_eq!((Refusal::of(0), Refusal::of(19)), (None, None));
-    assert_eq!(Refusal::ALL.len(), 18);
+    assert_eq!((Refusal::of(0), Refusal::of(21)), (None, None));
+    assert_eq!(Refusal::ALL.len(), 20);
 }
 
 /// Each refusal from a call that meets it.
@@ -103,9 +108,11 @@ fn a_run_is_picked_to_its_end() {
     let (l1, plans, ends) = (laws::l1(), [0, 1, 2, 3], [2, 4]);
     let mut run = Run::start(&l1).unwrap();
     assert_eq!((run.shared(), run.collided(), run.places()), (1, false, &[0; 8][..]));
+    assert_eq!(run.change(), 0);
     assert_eq!(run.pick(&l1, &plans, &ends, 1), Ok(Picked::Go));
-    assert_eq!((run.shared(), run.places()[1]), (8, 1));
+    assert_eq!((run.shared(), run.places()[1], run.change()), (8, 1, 1));
     assert_eq!(run.pick(&l1, &plans, &ends, 0), Err(Refusal::Pick));
+    assert_eq!(run.change(), 1);
     for member in [1, 0, 0] {
         assert_eq!(run.pick(&l1, &plans, &ends, member), Ok(Picked::Go));
     }
@@ -117,8 +124,94 @@ fn a_run_is_picked_to_its_end() {
     assert_eq!(run.pick(&l2, &plans, &ends, 0), Ok(Picked::Go));
     assert_eq!(run.pick(&l2, &plans, &ends, 1), Ok(Picked::Collision));
     assert!(run.collided());
-    assert_eq!(Run::of_words(*run.words()), run);
+    assert_eq!(run.change(), 2);
+    assert_eq!(Run::of_words(*run.words()), Ok(run));
     assert_eq!(Run::start(&l1[..4]), Err(Refusal::Length));
+}
+
+/// A run of the law at its start, with this change number.
+fn run_at(law: &[u64], change: u64) -> Result<Run, Refusal> {
+    let mut words = *Run::start(law).unwrap().words();
+    words[raw::RUN_CHANGE] = change;
+    Run::of_words(words)
+}
+
+#[test]
+fn a_pick_is_asked_for_and_committed() {
+    let (l1, plans, ends) = (laws::l1(), [0, 1, 2, 3], [2, 4]);
+    let mut run = Run::start(&l1).unwrap();
+    let start = run.clone();
+    let first = Ticket { member: 1, change: 0 };
+    let go = Asked { step: Step::Go(8), ticket: first };
+    assert_eq!(run.ask(&l1, &plans, &ends, 1), Ok(go));
+    let other = run.ask(&l1, &plans, &ends, 0).unwrap().ticket;
+    assert_eq!((other, &run), (Ticket { member: 0, change: 0 }, &start));
+    assert_eq!(run.commit(&l1, &plans, &ends, first), Ok(Picked::Go));
+    assert_eq!((run.shared(), run.places()[1], run.change()), (8, 1, 1));
+    // Each ticket of the time before is stale now, the one that was used too.
+    let before = run.clone();
+    assert_eq!(run.commit(&l1, &plans, &ends, first), Err(Refusal::Stale));
+    assert_eq!(run.commit(&l1, &plans, &ends, other), Err(Refusal::Stale));
+    // A step that waits has a ticket, which commits nothing.
+    let wait = Asked { step: Step::Wait, ticket: Ticket { member: 0, change: 1 } };
+    assert_eq!(run.ask(&l1, &plans, &ends, 0), Ok(wait));
+    assert_eq!(run.commit(&l1, &plans, &ends, wait.ticket), Err(Refusal::Pick));
+    assert_eq!(run.ask(&l1, &plans, &ends, 2), Err(Refusal::Member));
+    let nobody = Ticket { member: 2, change: 9 };
+    assert_eq!(run.commit(&l1, &plans, &ends, nobody), Err(Refusal::Member));
+    assert_eq!(run, before);
+    // One that nobody asked for.
+    let made = Ticket { member: 1, change: 1 };
+    assert_eq!(run.commit(&l1, &plans, &ends, made), Ok(Picked::Go));
+    assert_eq!(run.ask(&l1, &plans, &ends, 1), Err(Refusal::Pick));
+    // A plain pick makes a ticket stale.
+    let ticket = run.ask(&l1, &plans, &ends, 0).unwrap().ticket;
+    assert_eq!(run.pick(&l1, &plans, &ends, 0), Ok(Picked::Go));
+    assert_eq!(run.commit(&l1, &plans, &ends, ticket), Err(Refusal::Stale));
+
+    let l2 = laws::l2();
+    let mut run = Run::start(&l2).unwrap();
+    assert_eq!(run.pick(&l2, &plans, &ends, 0), Ok(Picked::Go));
+    let asked = run.ask(&l2, &plans, &ends, 1).unwrap();
+    assert_eq!(asked, Asked { step: Step::Collision, ticket: Ticket { member: 1, change: 1 } });
+    assert_eq!(run.commit(&l2, &plans, &ends, asked.ticket), Ok(Picked::Collision));
+    assert_eq!((run.collided(), run.change()), (true, 2));
+    assert_eq!(run.ask(&l2, &plans, &ends, 0), Err(Refusal::Pick));
+}
+
+#[test]
+fn the_last_change_number() {
+    let (l1, plans, ends) = (laws::l1(), [0, 1, 2, 3], [2, 4]);
+    let (go, last) = (Ok(Picked::Go), raw::LAST_CHANGE);
+    let mut run = run_at(&l1, u64::from(last) - 1).unwrap();
+    assert_eq!(run.pick(&l1, &plans, &ends, 0), go);
+    assert_eq!(run.change(), last);
+    let full = run.clone();
+    let asked = run.ask(&l1, &plans, &ends, 0).unwrap();
+    assert_eq!(asked, Asked { step: Step::Go(5), ticket: Ticket { member: 0, change: last } });
+    assert_eq!(run.commit(&l1, &plans, &ends, asked.ticket), Err(Refusal::Changes));
+    assert_eq!(run.pick(&l1, &plans, &ends, 0), Err(Refusal::Changes));
+    assert_eq!(run.pick(&l1, &plans, &ends, 1), Err(Refusal::Pick));
+    assert_eq!(run, full);
+    let mut run = run_at(&l1, u64::from(last) - 1).unwrap();
+    let (changes, pick) = (Err(Refusal::Changes), Err(Refusal::Pick));
+    let answers = run.play(&l1, &plans, &ends, &[1, 1, 0, 9, 1]).unwrap();
+    assert_eq!(answers, [go, changes, pick, Err(Refusal::Member), changes]);
+    assert_eq!((run.change(), run.shared()), (last, 8));
+    for above in [u64::from(last) + 1, u64::MAX] {
+        assert_eq!(run_at(&l1, above), Err(Refusal::Short));
+        let mut words = *full.words();
+        words[raw::RUN_CHANGE] = above;
+        let (before, mut out) = (words, [9; raw::ASK_OUT]);
+        let ask = raw::ask(&[], &plans, &ends, &words, 0, &mut out);
+        let pick = raw::pick(&[], &plans, &ends, &mut words, 0, &mut out);
+        let commit = raw::commit(&[], &plans, &ends, &mut words, 0, 0, &mut out);
+        let play = raw::play(&[], &plans, &ends, &mut words, &[], &mut []);
+        assert_eq!([ask, pick, commit, play], [raw::SHORT; 4]);
+        assert_eq!((words, out), (before, [9; raw::ASK_OUT]));
+        assert_eq!(raw::start(&l1, &mut words), 0);
+        assert_eq!(words, *Run::start(&l1).unwrap().words());
+    }
 }
 
 #[test]
@@ -128,7 +221,7 @@ fn picks_are_played() {
     let answers = run.play(&l2, &plans, &ends, &[0, 9, 1, 0]).unwrap();
     let (go, collision) = (Ok(Picked::Go), Ok(Picked::Collision));
     assert_eq!(answers, [go, Err(Refusal::Member), collision, Err(Refusal::Pick)]);
-    assert!(run.collided());
+    assert_eq!((run.collided(), run.change()), (true, 2));
     let before = run.clone();
     assert_eq!(run.play(&l2, &plans, &[2], &[0]), Err(Refusal::Ends));
     assert_eq!(run, before);

@@ -2,7 +2,7 @@
 #![allow(clippy::missing_safety_doc, clippy::too_many_arguments)]
 
 use reference::fast::Fast;
-use reference::interface::{Interface, Pddl};
+use reference::interface::{Interface, Pddl, Ticket};
 use std::slice::{from_raw_parts, from_raw_parts_mut};
 
 /// A slice that is lent to be read. An empty one may come with any pointer.
@@ -117,6 +117,55 @@ pub unsafe extern "C" fn lawcheck_pick(
         lent(ends, ends_len),
         lent_mut(run, run_len),
         member,
+        lent_mut(out, out_len),
+    )
+}
+
+#[no_mangle]
+pub unsafe extern "C" fn lawcheck_ask(
+    task: *const u64,
+    task_len: usize,
+    plans: *const u16,
+    plans_len: usize,
+    ends: *const u64,
+    ends_len: usize,
+    run: *const u64,
+    run_len: usize,
+    member: u8,
+    out: *mut u64,
+    out_len: usize,
+) -> u64 {
+    Fast.ask(
+        lent(task, task_len),
+        lent(plans, plans_len),
+        lent(ends, ends_len),
+        &mut lent(run, run_len).to_vec(),
+        member,
+        lent_mut(out, out_len),
+    )
+}
+
+#[no_mangle]
+pub unsafe extern "C" fn lawcheck_commit(
+    task: *const u64,
+    task_len: usize,
+    plans: *const u16,
+    plans_len: usize,
+    ends: *const u64,
+    ends_len: usize,
+    run: *mut u64,
+    run_len: usize,
+    member: u8,
+    change: u32,
+    out: *mut u64,
+    out_len: usize,
+) -> u64 {
+    Fast.commit(
+        lent(task, task_len),
+        lent(plans, plans_len),
+        lent(ends, ends_len),
+        lent_mut(run, run_len),
+        Ticket { member, change },
         lent_mut(out, out_len),
     )
 }

@@ -1,7 +1,27 @@
 //! The operations of the C interface as one trait: every number and slice as it is lent.
 
-/// The refusal of a slice shorter than asked.
+/// The refusal of a slice shorter than asked, and of a change number too large.
 pub const TOO_SHORT: u64 = 14;
+
+/// Words of a run: collided, eight places, the shared copy, the change number.
+pub const RUN: usize = 11;
+pub const SHARED: usize = 9;
+pub const CHANGE: usize = 10;
+
+/// The last change number.
+pub const LAST: u32 = 4_294_967_295;
+
+/// A member and a change number, by which an asked pick is committed.
+#[derive(Clone, Copy, Debug, PartialEq, Eq, PartialOrd, Ord, Hash)]
+pub struct Ticket {
+    pub member: u8,
+    pub change: u32,
+}
+
+/// Whether the words of a run are too few, or hold no change number.
+pub fn no_run(run: &[u64]) -> bool {
+    run.len() < RUN || run[CHANGE] > u64::from(LAST)
+}
 
 /// How many numbers an answer writes to the front of `out`.
 pub mod out_length {
@@ -10,6 +30,8 @@ pub mod out_length {
     pub const SOLO_SEARCH: usize = 3;
     pub const JOINT_REPLAY: usize = 4;
     pub const PICK: usize = 1;
+    pub const ASK: usize = 4;
+    pub const COMMIT: usize = 1;
     pub const VERDICT: usize = 3;
     pub const READ: usize = 1;
     pub const PDDL_READ: usize = 1;
@@ -51,6 +73,27 @@ pub trait Interface: Sync {
         ends: &[u64],
         run: &mut [u64],
         member: u8,
+        out: &mut [u64],
+    ) -> u64;
+
+    /// The run is to be read; it is lent as one that a wrong implementation could write.
+    fn ask(
+        &self,
+        task: &[u64],
+        plans: &[u16],
+        ends: &[u64],
+        run: &mut [u64],
+        member: u8,
+        out: &mut [u64],
+    ) -> u64;
+
+    fn commit(
+        &self,
+        task: &[u64],
+        plans: &[u16],
+        ends: &[u64],
+        run: &mut [u64],
+        ticket: Ticket,
         out: &mut [u64],
     ) -> u64;
 

@@ -40,14 +40,14 @@ use denote.Triple.Table.{entered, cited}
 use denote.Triple.Walked.{says, Stays, stay-none, stay-none-slice, walkOf, AllGo, goes-none, goes-none-slice, Walks}
 use denote.Triple.Walked.{ends-at, walked, walk-meets}
 use denote.Exit.{yes}
-use Rattle.semantics.specs.Run.{pickOn}
-use Rattle.run_pick.specs.Value.{runOf, PickMeans}
-use Rattle.run_pick.specs.declared.Run.{Run}
-use Rattle.run_pick.specs.declared.Picked.{Picked}
-use Rattle.run_pick.proofs.Run as T
-use Rattle.run_pick.proofs.Run.Laws as T′
-use Rattle.run_pick.proofs.Picked as P
-use Rattle.run_pick.proofs.Picked.Laws as P′
+use Rattle.semantics.specs.Dispatch.{pickNumbered}
+use Rattle.run_ticket.specs.Value.{numberedOf, DispatchMeans}
+use Rattle.run_ticket.specs.declared.Numbered.{Numbered}
+use Rattle.run_ticket.specs.declared.Dispatched.{Dispatched}
+use Rattle.run_ticket.proofs.Numbered as T
+use Rattle.run_ticket.proofs.Numbered.Laws as T′
+use Rattle.run_ticket.proofs.Dispatched as P
+use Rattle.run_ticket.proofs.Dispatched.Laws as P′
 use Rattle.run_pick.proofs.Answer as N
 use Rattle.run_pick.proofs.Answer.Laws as N′
 use Rattle.run_dispatch.proofs.Machine.{mach, Cell, sliced, Task, Plans, Ends}
@@ -73,9 +73,9 @@ stayed = (
 )
 
 module _ {M : Type 1} (𝓤 : URA M) (H : Heap 𝓤) (A : Atoms 𝓤) (W : Given 𝓤 H A) (at-mem : Memory → SProp 𝓤)
-    (run : Routine → Fun 𝓤) (κ₀ κ₁ κ₂ : Lft) (q₀ q₁ q₂ : Share) (s₀ s₁ s₂ : RefT (List ℕ)) (h : Run) (n : ℕ)
+    (run : Routine → Fun 𝓤) (κ₀ κ₁ κ₂ : Lft) (q₀ q₁ q₂ : Share) (s₀ s₁ s₂ : RefT (List ℕ)) (h : Numbered) (n : ℕ)
     (fits : n < 2 ^ 8) (was : Is T.the-row h (mach h ∷ [])) where
-  abbrev x : RefT (List ℕ) × (RefT (List ℕ) × (RefT (List ℕ) × (Run × (ℕ × Unit {0}))))
+  abbrev x : RefT (List ℕ) × (RefT (List ℕ) × (RefT (List ℕ) × (Numbered × (ℕ × Unit {0}))))
   x = (s₀, (s₁, (s₂, (h, (n, tt)))))
 
   abbrev vals : List Val × (List Val × (List Val × (List Val × (List Val × Unit {0}))))
@@ -88,17 +88,17 @@ module _ {M : Type 1} (𝓤 : URA M) (H : Heap 𝓤) (A : Atoms 𝓤) (W : Given
   Post = walkOf 𝓤 H A f.ended stayed (f.clauses 𝓤 H A at-mem run) .post bound
 
   -- the machine values of the answer and of what is returned
-  abbrev ans : Picked → Val
+  abbrev ans : Dispatched → Val
   ans p = EL.val N.the-type N′.the-laws (p .answer)
 
-  abbrev ret : Picked → Val
+  abbrev ret : Dispatched → Val
   ret p = LL.val P.the-type P′.the-laws p
 
-  is-ret : (p : Picked) → Is N.the-row (p .answer) (ans p ∷ []) → Is T.the-row (p .run) (mach (p .run) ∷ [])
+  is-ret : (p : Dispatched) → Is N.the-row (p .answer) (ans p ∷ []) → Is T.the-row (p .run) (mach (p .run) ∷ [])
       → Is P.the-row p (ret p ∷ [])
   is-ret p ia ir = LL.owes P.the-type P′.the-laws p (ia, (ir, tt))
 
-  is-after : (v : Val) (p : Picked) → Met s₀ s₁ s₂ h n v p → Is P.the-row p (ret p ∷ [])
+  is-after : (v : Val) (p : Dispatched) → Met s₀ s₁ s₂ h n v p → Is P.the-row p (ret p ∷ [])
   is-after v p is =
       is-ret p
       (subst (λ (vs : List Val). Is N.the-row (p .answer) vs)
@@ -108,7 +108,7 @@ module _ {M : Type 1} (𝓤 : URA M) (H : Heap 𝓤) (A : Atoms 𝓤) (W : Given
   abbrev left : List (Item 𝓤)
   left = ‵ (flft κ₀ q₀) ∷ ‵ (flft κ₁ q₁) ∷ ‵ (flft κ₂ q₂) ∷ ‵ (Task κ₀ s₀) ∷ ‵ (Plans κ₁ s₁) ∷ ‵ (Ends κ₂ s₂) ∷ []
 
-  exits : (p : Picked) → PickMeans (pickOn (now s₀) (now s₁) (now s₂) (runOf h) n) h p → Is P.the-row p (ret p ∷ [])
+  exits : (p : Dispatched) → DispatchMeans (pickNumbered (now s₀) (now s₁) (now s₂) (numberedOf h) n) h p → Is P.the-row p (ret p ∷ [])
       → ent 𝓤 (⋆ 𝓤 H A left) (Post (ret p))
   exits p meant is =
       qed W left ∵
@@ -175,7 +175,7 @@ module _ {M : Type 1} (𝓤 : URA M) (H : Heap 𝓤) (A : Atoms 𝓤) (W : Given
         (and-then ! (load ! (from ! (stop !)) (look ! 4 refl))
         (and-then ! (load ! (from ! (stop !)) (look ! 9 refl)) (no-more !)))))) (λ v.
         use2 W (later
-        (some (λ (p : Picked). given (Met s₀ s₁ s₂ h n v p)
+        (some (λ (p : Dispatched). given (Met s₀ s₁ s₂ h n v p)
         (‵ (Cell l₆ (p .run)) ⊛ ‵ (flft κ₀ q₀) ⊛ ‵ (flft κ₁ q₁) ⊛ ‵ (flft κ₂ q₂)))))
         (takes-back 𝓤 H A at-mem run κ₀ κ₁ κ₂ q₀ q₁ q₂ s₀ s₁ s₂ l₆ h n W α δ v) $ await ! tt $ pick !
         (λ p. learn ! (λ is.

@@ -1,6 +1,6 @@
 -- `run_dispatch::pick` meets its contract: a walk of its MIR, by hand. The borrow is opened, the run behind it is
--- copied whole and passed to `run_replay::pick`, the run that comes back is stored whole, and the borrow is closed at
--- it. All that the proof knows of `run_replay::pick` is that it meets its contract. Assumes nothing.
+-- copied whole and passed to `run_ticket::pick`, the run that comes back is stored whole, and the borrow is closed at
+-- it. All that the proof knows of `run_ticket::pick` is that it meets its contract. Assumes nothing.
 use mathlib.Core.Path.{refl, ap}
 use Prim.Native.Nat.{ℕ, _<_, _^_}
 use mathlib.Core.List.{[], _∷_, List}
@@ -44,20 +44,20 @@ use denote.Triple.Table.{entered, cited}
 use denote.Triple.Walked.{says, Stays, stay-ref, stay-none, stay-none-slice, walkOf, AllGo, goes-none, goes-none-slice}
 use denote.Triple.Walked.{goes-ref, Walks, ends-at, walked, walk-meets}
 use denote.Exit.{yes}
-use Rattle.semantics.specs.Run.{pickOn}
-use Rattle.run_pick.specs.Value.{runOf, PickMeans}
-use Rattle.run_pick.specs.declared.Run.{Run}
-use Rattle.run_pick.specs.declared.Picked.{Picked}
-use Rattle.run_pick.proofs.Run as T
-use Rattle.run_pick.proofs.Run.Laws as T′
-use Rattle.run_pick.proofs.Picked as P
-use Rattle.run_pick.proofs.Picked.Laws as P′
+use Rattle.semantics.specs.Dispatch.{pickNumbered}
+use Rattle.run_ticket.specs.Value.{numberedOf, DispatchMeans}
+use Rattle.run_ticket.specs.declared.Numbered.{Numbered}
+use Rattle.run_ticket.specs.declared.Dispatched.{Dispatched}
+use Rattle.run_ticket.proofs.Numbered as T
+use Rattle.run_ticket.proofs.Numbered.Laws as T′
+use Rattle.run_ticket.proofs.Dispatched as P
+use Rattle.run_ticket.proofs.Dispatched.Laws as P′
 use Rattle.run_pick.proofs.Answer as N
 use Rattle.run_pick.proofs.Answer.Laws as N′
-use Rattle.run_replay.proofs.pick as g
-use Rattle.run_replay.proofs.pick.Symbol as g-def
-use Rattle.run_replay.proofs.pick.Symbol.{name as #run·pick}
-use Rattle.run_replay.proofs.pick.Met as g-thm
+use Rattle.run_ticket.proofs.pick as g
+use Rattle.run_ticket.proofs.pick.Symbol as g-def
+use Rattle.run_ticket.proofs.pick.Symbol.{name as #run·pick}
+use Rattle.run_ticket.proofs.pick.Met as g-thm
 use Rattle.run_dispatch.proofs.Machine.{mach, sliced, Task, Plans, Ends}
 use Rattle.run_dispatch.proofs.pick.Key.{name as #dispatch·pick}
 use Rattle.run_dispatch.proofs.pick as f
@@ -83,18 +83,18 @@ module _ {M : Type 1} (𝓤 : URA M) (H : Heap 𝓤) (A : Atoms 𝓤) (at-mem : 
 
 module _ {M : Type 1} (𝓤 : URA M) (H : Heap 𝓤) (A : Atoms 𝓤) (W : Given 𝓤 H A) (at-mem : Memory → SProp 𝓤)
     (run : Routine → Fun 𝓤) (κ₀ κ₁ κ₂ κ′ : Lft) (q₀ q₁ q₂ q′ : Share) (s₀ s₁ s₂ : RefT (List ℕ)) (b o : ℕ) (γ : GName)
-    (h : Run) (n : ℕ) (fits : n < 2 ^ 8) where
+    (h : Numbered) (n : ℕ) (fits : n < 2 ^ 8) where
   abbrev Slices : Type 0 → Type 0
   Slices X = RefT (List ℕ) × (RefT (List ℕ) × (RefT (List ℕ) × X))
 
-  abbrev x : Slices (RefT Run × (ℕ × Unit {0}))
+  abbrev x : Slices (RefT Numbered × (ℕ × Unit {0}))
   x = (s₀, (s₁, (s₂, (record { ptr = (b, o); name = γ; now = h }, (n, tt)))))
 
-  abbrev y : Slices (Run × (ℕ × Unit {0}))
+  abbrev y : Slices (Numbered × (ℕ × Unit {0}))
   y = (s₀, (s₁, (s₂, (h, (n, tt)))))
 
-  -- the machine value of the answer in what `run_replay::pick` returns
-  abbrev ans : Picked → Val
+  -- the machine value of the answer in what `run_ticket::pick` returns
+  abbrev ans : Dispatched → Val
   ans r = EL.val N.the-type N′.the-laws (r .answer)
 
   abbrev vals : List Val × (List Val × (List Val × (List Val × (List Val × Unit {0}))))
@@ -106,8 +106,8 @@ module _ {M : Type 1} (𝓤 : URA M) (H : Heap 𝓤) (A : Atoms 𝓤) (W : Given
   abbrev Post : Val → SProp 𝓤
   Post = walkOf 𝓤 H A f.ended stayed (f.clauses 𝓤 H A at-mem run) .post bound
 
-  abbrev Meant : Picked → Type 0
-  Meant r = PickMeans (pickOn (now s₀) (now s₁) (now s₂) (runOf h) n) h r
+  abbrev Meant : Dispatched → Type 0
+  Meant r = DispatchMeans (pickNumbered (now s₀) (now s₁) (now s₂) (numberedOf h) n) h r
 
   abbrev Tokens : Item 𝓤
   Tokens = ‵ (flft κ₀ q₀) ⊛ ‵ (flft κ₁ q₁) ⊛ ‵ (flft κ₂ q₂) ⊛ ‵ ftrue
@@ -138,21 +138,21 @@ module _ {M : Type 1} (𝓤 : URA M) (H : Heap 𝓤) (A : Atoms 𝓤) (W : Given
       (2 ∷ 0 ∷ []) $ fjoin ! $ move ! (1 ∷ 0 ∷ []) $ join ! $ frame ! $ done !
 
   -- what is known of the fields of what it returns
-  is-run : {u : Val} (r : Picked) → Is P.the-row r (u ∷ []) → Is T.the-row (r .run) (mach (r .run) ∷ [])
+  is-run : {u : Val} (r : Dispatched) → Is P.the-row r (u ∷ []) → Is T.the-row (r .run) (mach (r .run) ∷ [])
   is-run r is = LL.owed P.the-type P′.the-laws r _ is .1 .0
 
-  is-ans : {u : Val} (r : Picked) → Is P.the-row r (u ∷ []) → Is N.the-row (r .answer) (ans r ∷ [])
+  is-ans : {u : Val} (r : Dispatched) → Is P.the-row r (u ∷ []) → Is N.the-row (r .answer) (ans r ∷ [])
   is-ans r is = LL.owed P.the-type P′.the-laws r _ is .0
 
-  said : (r : Picked)
+  said : (r : Dispatched)
       → ent 𝓤 (ensured 𝓤 H A g.ended (g.clauses 𝓤 H A at-mem run) (κ₀, (κ₁, (κ₂, tt))) y tt r) (fact 𝓤 (Meant r))
   said r = exE 𝓤 _ (λ ws. snd∗ 𝓤 (sem 𝓤 H A (lasts g.ended (κ₀, (κ₁, (κ₂, tt))) y ws)) (fact 𝓤 (Meant r)))
 
-  abbrev left : Picked → List (Item 𝓤)
+  abbrev left : Dispatched → List (Item 𝓤)
   left r = ‵ (fobs γ (T.the-row .coded .code (r .run))) ∷ ‵ (fbor κ′ (Body (mem T.the-row) b o γ)) ∷ ‵
       (flft κ′ q′) ∷ Tokens ∷ ‵ (Task κ₀ s₀) ∷ ‵ (Plans κ₁ s₁) ∷ ‵ (Ends κ₂ s₂) ∷ []
 
-  exits : (r : Picked) → Meant r → Is N.the-row (r .answer) (ans r ∷ []) → ent 𝓤 (⋆ 𝓤 H A (left r)) (Post (ans r))
+  exits : (r : Dispatched) → Meant r → Is N.the-row (r .answer) (ans r ∷ []) → ent 𝓤 (⋆ 𝓤 H A (left r)) (Post (ans r))
   exits r e is =
       qed W (left r) ∵
       suffices ! _
@@ -206,7 +206,7 @@ module _ {M : Type 1} (𝓤 : URA M) (H : Heap 𝓤) (A : Atoms 𝓤) (W : Given
         (LL.tells T.the-type T′.the-laws) fullShare h vs b o $
         move ! (1 ∷ []) $ peeks ! T.the-row (Is T.the-row) (shows 𝓤 H A T.the-row) h (mach h ∷ [])
         (λ was. move ! (1 ∷ 0 ∷ []) $
-        -- [the run's cell; what a Run owns; the open borrow; obs; auth; _7; …; _1; …; room for _0; …; the slices'
+        -- [the run's cell; what a Numbered owns; the open borrow; obs; auth; _7; …; _1; …; room for _0; …; the slices'
         -- tokens; what the slices own, twice]
         assigns ! (of-opd ! (load ! (from ! (hop ! (look ! 11 refl) (stop !))) (look-raw ! 0 refl))) (from ! (stop !))
         (init ! 5 refl (LL.lawful T.the-type T′.the-laws 𝓤 H A W .typed h _ was .0)) $
@@ -219,13 +219,13 @@ module _ {M : Type 1} (𝓤 : URA M) (H : Heap 𝓤) (A : Atoms 𝓤) (W : Given
         (and-then ! (load ! (from ! (stop !)) (look ! 5 refl))
         (and-then ! (load ! (from ! (stop !)) (look ! 9 refl)) (no-more !)))))) (λ u.
         use1 W (later
-        (some (λ (r : Picked). (Tokens ⊛ ‵ (P.the-row .own r (u ∷ []))) ⊛ raw
+        (some (λ (r : Dispatched). (Tokens ⊛ ‵ (P.the-row .own r (u ∷ []))) ⊛ raw
         (ensured 𝓤 H A g.ended (g.clauses 𝓤 H A at-mem run) (κ₀, (κ₁, (κ₂, tt))) y tt r))))
         (id⊢ 𝓤 _) $ await ! tt $ pick ! (λ r.
         split ! $ move ! (1 ∷ []) $ use1 W (raw (fact 𝓤 (Meant r))) (said r) $ heard ! (Meant r)
         (λ e. split ! $ move ! (1 ∷ []) $
         peeks ! P.the-row (Is P.the-row) (shows 𝓤 H A P.the-row) r (u ∷ []) (λ is.
-        -- [what a Picked owns; the slices' tokens; the run's cell; the open borrow; obs; auth; _7; …; room for _6; …;
+        -- [what a Dispatched owns; the slices' tokens; the run's cell; the open borrow; obs; auth; _7; …; room for _6; …;
         -- _5; …; _1; …; room for _0; …; what the slices own]
         land ! (from ! (stop !)) (init ! 8 refl (LL.lawful P.the-type P′.the-laws 𝓤 H A W .typed r _ is .0)) $
         rewrite ! 8 (λ (w : Val). ‵ (fat fullShare P′.mir l₆ 0 w))
@@ -298,5 +298,5 @@ pick-spec 𝓤 H 𝓜 𝓖 𝓡 =
     entered 𝓤 H (tripleOf 𝓤 H (𝓖 .A) f.signature (f.spec 𝓤 H (𝓖 .A) (𝓜 .mem) (𝓡 .run)))
     (tables 𝓤 H 𝓜 𝓡 code.env .C) (tables 𝓤 H 𝓜 𝓡 code.env .Λ) #dispatch·pick code.function (code.unfolded 𝓤 H 𝓜 𝓡)
     (pick-meets 𝓤 H (𝓖 .A) (givenOf 𝓤 H 𝓜 𝓖) (𝓜 .mem) (𝓡 .run) (tablesOf 𝓤 H 𝓜 (tables 𝓤 H 𝓜 𝓡 code.env))
-    (cited 𝓤 H (ByValue 𝓤 H (𝓖 .A) (𝓜 .mem) (𝓡 .run)) 𝓜 𝓡 code.env #run·pick g-def.routine code.calls-run-replay·pick
+    (cited 𝓤 H (ByValue 𝓤 H (𝓖 .A) (𝓜 .mem) (𝓡 .run)) 𝓜 𝓡 code.env #run·pick g-def.routine code.calls-run-ticket·pick
     (g-thm.met 𝓤 H 𝓜 𝓖 𝓡)))

@@ -1,31 +1,29 @@
 -- What runs of a task with plans in one slice mean.
-use mathlib.Core.Bool.{Bool}
 use mathlib.Core.List.{List}
-use Prim.Native.Nat.{ℕ}
+use Prim.Native.Nat.{ℕ, _+_, _^_, _<_}
+use lib.ListN.{getD}
 use Rattle.semantics.specs.Base.{Answer}
 use Rattle.semantics.specs.Task.{members}
 use Rattle.semantics.specs.System.{system, waits}
-use Rattle.semantics.specs.Run.{Run, Replied, Outcome, Replay, plansOf, pick, pickable, stepsLeft, outcome, replayOn}
-use Rattle.semantics.specs.Run.{replay}
+use Rattle.semantics.specs.Run.{Replied, plansOf, pick}
+use Rattle.semantics.specs.Step.{Decision}
+use Rattle.semantics.specs.Dispatch.{nextStep}
+use Rattle.semantics.specs.Run as Paper
+use Rattle.step.specs.declared.Stepped.{Stepped}
+use Rattle.step.specs.declared.Stepped.the-variants.{Refused, Gives}
+use Rattle.run_pick.specs.declared.Run.{Run}
 
 module _ (t plans ends : List ℕ) where
   abbrev pub plansIn : List (List ℕ)
   plansIn = plansOf (members t) plans ends
 
-  abbrev pub pickIn : Run ℕ → ℕ → Answer (Replied ℕ)
+  abbrev pub nextIn : Paper.Run ℕ → ℕ → Answer (Decision ℕ)
+  nextIn r j = nextStep (system t) (waits t) plansIn r j
+
+  abbrev pub pickIn : Paper.Run ℕ → ℕ → Answer (Replied (Paper.Run ℕ))
   pickIn r j = pick (system t) (waits t) plansIn r j
 
-  abbrev pub pickableIn : Run ℕ → Bool
-  pickableIn r = pickable (system t) (waits t) plansIn r
-
-  abbrev pub stepsLeftIn : Run ℕ → Bool
-  stepsLeftIn r = stepsLeft (system t) (waits t) plansIn r
-
-  abbrev pub outcomeIn : Run ℕ → Outcome
-  outcomeIn r = outcome (system t) (waits t) plansIn r
-
-  abbrev pub replayOnIn : Answer (Run ℕ) → ℕ → List ℕ → Answer (Replay ℕ)
-  replayOnIn a k picks = replayOn (system t) (waits t) plansIn a k picks
-
-  abbrev pub replayIn : List ℕ → Answer (Replay ℕ)
-  replayIn picks = replay (system t) (waits t) plansIn picks
+-- where the next step has an answer: the member is one of the task's, and its place can be moved on
+abbrev pub Ready : List ℕ → Run → ℕ → Stepped → Type 0
+Ready t run j (Refused k) = Unit {0}
+Ready t run j (Gives d) = (j < members t) × (getD (run .places) j 0 + 1 < 2 ^ 64)

@@ -8,8 +8,7 @@ use Rattle.run_play.proofs.play_all.Statement.{statement}
 use Rattle.run_play.proofs.play_all.Tie as tie
 
 abbrev Inv-loop : tie.InvT-loop
-Inv-loop t plans ends picks answers₀ current₀ k₀ answers current k =
-    Playing t plans ends picks answers₀ current₀ current answers k
+Inv-loop t plans ends picks answers₀ current₀ k₀ answers current k = Playing t plans ends picks answers₀ current₀ current answers k
 
 abbrev μ-loop : tie.MeasureT-loop
 μ-loop t plans ends picks answers₀ current₀ k₀ answers current k = length picks - k
@@ -17,14 +16,14 @@ abbrev μ-loop : tie.MeasureT-loop
 loop-holds : tie.Need-loop-holds Inv-loop μ-loop
 loop-holds c = search playing-starts
 
-shared-slice-read-pick : tie.Need-shared-slice-read-pick Inv-loop μ-loop
-shared-slice-read-pick c = search needs
+shared-slice-read-pick-checked : tie.Need-shared-slice-read-pick-checked Inv-loop μ-loop
+shared-slice-read-pick-checked c = search needs
 
-cast-pick : tie.Need-cast-pick Inv-loop μ-loop
-cast-pick c = omega (arith, c .shared-slice-known5 .given (c .before .before .loop .k))
+cast-pick-checked : tie.Need-cast-pick-checked Inv-loop μ-loop
+cast-pick-checked c = omega (arith, c .shared-slice-known5 .given (c .before .before .loop .k))
 
-pick-requires : tie.Need-pick-requires Inv-loop μ-loop
-pick-requires c κs = search needs
+pick-checked-requires : tie.Need-pick-checked-requires Inv-loop μ-loop
+pick-checked-requires c κs = search needs
 
 number-requires : tie.Need-number-requires Inv-loop μ-loop
 number-requires c κs = search needs
@@ -54,9 +53,9 @@ play-all-spec =
     Inv-loop
     μ-loop
     loop-holds
-    shared-slice-read-pick
-    cast-pick
-    pick-requires
+    shared-slice-read-pick-checked
+    cast-pick-checked
+    pick-checked-requires
     number-requires
     put-requires
     add-k

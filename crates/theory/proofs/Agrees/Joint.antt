@@ -138,11 +138,11 @@ module _ (t : List ℕ) (plans : List (List ℕ)) where
   closed-on r f c k (j ∷ js) a h =
       let (e, q) = closed-pick t plans r (ap isClosed c) j in
       let given : on-from (refused e) k js ≡ gives a =
-      subst (λ (x : Answer (Replied ℕ)). on-from (runAfter x) (tally k x) js ≡ gives a) q h in
+      subst (λ (x : Answer (Replied (Run ℕ))). on-from (runAfter x) (tally k x) js ≡ gives a) q h in
       absurd (refused-gives (sym (refused-replay t plans e k js) ∙ given))
 
   -- a pick, and what is told of the picks after it
-  told-pick : (r : Run ℕ) (j k : ℕ) (js : List ℕ) (a : Replay ℕ) (x : Answer (Replied ℕ)) → Picked t plans r j x
+  told-pick : (r : Run ℕ) (j k : ℕ) (js : List ℕ) (a : Replay ℕ) (x : Answer (Replied (Run ℕ))) → Picked t plans r j x
       → ((r′ : Run ℕ) → Going r′ → (k′ : ℕ) → on-from (gives r′) k′ js ≡ gives a → Told r′ k′ js a)
       → on-from (runAfter x) (tally k x) js ≡ gives a → Told r k (j ∷ js) a
   told-pick r j k js a (gives p) (Picked.goes g act) ih h =
@@ -164,7 +164,7 @@ module _ (t : List ℕ) (plans : List (List ℕ)) where
       (λ r′ g′ k′ e. replay-told js r′ g′ k′ a e) h
 
   -- a pick that collides, or that goes, is answered so
-  replay-crash : (r : Run ℕ) (i k g : ℕ) (x : Answer (Replied ℕ)) → Picked t plans r i x
+  replay-crash : (r : Run ℕ) (i k g : ℕ) (x : Answer (Replied (Run ℕ))) → Picked t plans r i x
       → Collides (setting t) (worldAt t plans r) i → g ≡ r .shared
       → on-from (runAfter x) (tally k x) []
       ≡ gives (record { outcome = failure Fault.collision; shared = g; picked = k + 0 })
@@ -177,7 +177,8 @@ module _ (t : List ℕ) (plans : List (List ℕ)) where
       absurd (moves-stays (setting t) (worldAt t plans r) i (inl c)
       (h (moves-agent (setting t) (worldAt t plans r) i (inl c))))
 
-  replay-act : (r : Run ℕ) (i k g m : ℕ) (is : List ℕ) (o : Outcome) (w : World (setting t)) (x : Answer (Replied ℕ))
+  replay-act : (r : Run ℕ) (i k g m : ℕ) (is : List ℕ) (o : Outcome) (w : World (setting t))
+      (x : Answer (Replied (Run ℕ)))
       → Picked t plans r i x
       → Acts (setting t) (worldAt t plans r) i w
       → ((r′ : Run ℕ) → Going r′ → w ≡ worldAt t plans r′ → (k′ : ℕ)

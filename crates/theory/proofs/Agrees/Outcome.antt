@@ -70,7 +70,8 @@ none-left : (p : List ℕ) → ltb 0 (length p) ≡ false → p ≡ []
 none-left [] h = refl
 none-left (a ∷ p) h = absurd (omega (arith, ltb-false))
 
-picked-given : (t : List ℕ) (plans : List (List ℕ)) (r : Run ℕ) (j : ℕ) (x : Answer (Replied ℕ)) → Picked t plans r j x
+picked-given : (t : List ℕ) (plans : List (List ℕ)) (r : Run ℕ) (j : ℕ) (x : Answer (Replied (Run ℕ)))
+    → Picked t plans r j x
     → (given x ≡ true) ↔ Moves (setting t) (worldAt t plans r) j
 picked-given t plans r j (gives p) (Picked.goes g a) = (λ h. inr (worldAt t plans (p .run), a), λ m. refl)
 picked-given t plans r j (gives p) (Picked.collides c s k) = (λ h. inl k, λ m. refl)
@@ -80,7 +81,8 @@ picked-given t plans r j (refused e) (Picked.impossible h) = (
       (moves-stays (setting t) (worldAt t plans r) j m (h (moves-agent (setting t) (worldAt t plans r) j m))),
 )
 
-picked-stays : (t : List ℕ) (plans : List (List ℕ)) (r : Run ℕ) (j : ℕ) (x : Answer (Replied ℕ)) → Picked t plans r j x
+picked-stays : (t : List ℕ) (plans : List (List ℕ)) (r : Run ℕ) (j : ℕ) (x : Answer (Replied (Run ℕ)))
+    → Picked t plans r j x
     → given x ≡ false → j < Task.members t → Stays (setting t) (worldAt t plans r) j
 picked-stays t plans r j (gives x) p h = absurd (false≢true (sym h))
 picked-stays t plans r j (refused e) (Picked.impossible s) h = s
@@ -95,7 +97,7 @@ module _ (t : List ℕ) (plans : List (List ℕ)) (r : Run ℕ) (going : Going r
   abbrev has-steps : Bool
   has-steps = stepsLeft (system t) (waits t) plans r
 
-  abbrev pick-of : ℕ → Answer (Replied ℕ)
+  abbrev pick-of : ℕ → Answer (Replied (Run ℕ))
   pick-of j = pick (system t) (waits t) plans r j
 
   pick-says : (j : ℕ) → Picked t plans r j (pick-of j)

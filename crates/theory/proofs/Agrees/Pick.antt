@@ -29,7 +29,7 @@ abbrev pub Going : Run ℕ → Type 0
 Going r = r .closed ≡ not-yet
 
 -- what the answer of a pick says
-pub data Picked (t : List ℕ) (plans : List (List ℕ)) (r : Run ℕ) (j : ℕ) : Answer (Replied ℕ) → Type 0 where
+pub data Picked (t : List ℕ) (plans : List (List ℕ)) (r : Run ℕ) (j : ℕ) : Answer (Replied (Run ℕ)) → Type 0 where
   goes : {r′ : Run ℕ} → Going r′ → Acts (setting t) (worldAt t plans r) j (worldAt t plans r′)
       → Picked t plans r j (gives (record { reply = Reply.goes; run = r′ }))
   collides : {r′ : Run ℕ} → r′ .closed ≡ by Fault.collision → r′ .shared ≡ r .shared
@@ -55,19 +55,29 @@ module _ (t : List ℕ) (plans : List (List ℕ)) (r : Run ℕ) (going : Going r
       let state = facts-result t a (r .shared) b in
       λ i. record { state = state i; left = left i }
 
-  asked : (x : Answer (Replied ℕ)) → Pick.Picked (system t) (waits t) plans r j x → Picked t plans r j x
+  -- what the pending action does, that the scheduler's choice of the agent meets
+  module _ {a : ℕ} {π : List ℕ} (member : j < Task.members t) (left : rest plans r j ≡ a ∷ π) where
+    pub its-acts : waits t a (r .shared) ≡ false → able (system t) a (r .shared) ≡ true
+        → Acts (setting t) (worldAt t plans r) j (worldAt t plans (stepped r j (result (system t) a (r .shared))))
+    its-acts w b =
+        subst (Acts (setting t) (worldAt t plans r) j) (sym (gone-world member a π left b))
+        (acts member left (asks-within t a (r .shared) w) (able-sub t a (r .shared) b))
+
+    pub its-collides : waits t a (r .shared) ≡ false → able (system t) a (r .shared) ≡ false
+        → Collides (setting t) (worldAt t plans r) j
+    its-collides w b =
+        Collides.collides member left (asks-within t a (r .shared) w) (unable-not-sub t a (r .shared) b)
+
+    pub its-waits : waits t a (r .shared) ≡ true → Waiting (setting t) (worldAt t plans r) j
+    its-waits w = Waiting.waiting left (waits-lack t a (r .shared) w)
+
+  asked : (x : Answer (Replied (Run ℕ))) → Pick.Picked (system t) (waits t) plans r j x → Picked t plans r j x
   asked x (Pick.Picked.nobody h) = impossible (λ l. absurd (omega arith))
   asked x (Pick.Picked.closed h e) = absurd (closed-open e going)
   asked x (Pick.Picked.over h e left) = impossible (λ l. inr left)
-  asked x (Pick.Picked.waits {a = a} h e left w) =
-      impossible (λ l. inl (Waiting.waiting left (waits-lack t a (r .shared) w)))
-  asked x (Pick.Picked.goes {a = a} {p = π} h e left w b) =
-      goes refl
-      (subst (Acts (setting t) (worldAt t plans r) j) (sym (gone-world h a π left b))
-      (acts h left (asks-within t a (r .shared) w) (able-sub t a (r .shared) b)))
-  asked x (Pick.Picked.collides {a = a} h e left w b) =
-      collides refl refl
-      (Collides.collides h left (asks-within t a (r .shared) w) (unable-not-sub t a (r .shared) b))
+  asked x (Pick.Picked.waits h e left w) = impossible (λ l. inl (its-waits h left w))
+  asked x (Pick.Picked.goes h e left w b) = goes refl (its-acts h left w b)
+  asked x (Pick.Picked.collides h e left w b) = collides refl refl (its-collides h left w b)
 
 pub picked : (t : List ℕ) → (plans : List (List ℕ)) (r : Run ℕ) → Going r
     → (j : ℕ) → Picked t plans r j (pick (system t) (waits t) plans r j)
@@ -110,7 +120,7 @@ module _ (t plans ends : List ℕ) (r : Run ℕ) (i : ℕ) where
   unfolding pickOn
   fits-pick f = rw (fits-passes t plans ends r f)
 
-  pub pick-fits : (p : Replied ℕ) → pickOn t plans ends r i ≡ gives p → RunFits t plans ends r
+  pub pick-fits : (p : Replied (Run ℕ)) → pickOn t plans ends r i ≡ gives p → RunFits t plans ends r
   unfolding pickOn
   pick-fits p e =
       passes-fits t plans ends r (unless-gives (runRefusal t plans ends r) (pick (system t) (waits t) P r i) e .0)
@@ -122,7 +132,7 @@ module _ (t plans ends : List ℕ) (r : Run ℕ) (i : ℕ) where
   goes-told g e h c act =
       record {
         goes = λ g′. (
-          λ q. let s : g ≡ g′ = ap (λ (x : Replied ℕ). x .run .shared) (gives-inj (sym e ∙ q)) in
+          λ q. let s : g ≡ g′ = ap (λ (x : Replied (Run ℕ)). x .run .shared) (gives-inj (sym e ∙ q)) in
               (c, subst (λ (x : ℕ). Acts (setting t) W i (worldIn t plans ends (stepped r i x))) s act),
           λ k.
               let s = same-facts g g′
@@ -130,7 +140,7 @@ module _ (t plans ends : List ℕ) (r : Run ℕ) (i : ℕ) where
               e ∙ ap (λ (x : ℕ). gives (record { reply = Reply.goes; run = stepped r i x })) s,
         );
         collides = (
-          λ q. absurd (false≢true (ap (λ (x : Replied ℕ). isClosed (x .run .closed)) (gives-inj (sym e ∙ q)))),
+          λ q. absurd (false≢true (ap (λ (x : Replied (Run ℕ)). isClosed (x .run .closed)) (gives-inj (sym e ∙ q)))),
           λ k. absurd (acts-collides (setting t) W i act (k .1)),
         );
         nobody = (λ q. absurd (refused-gives (sym q ∙ e)), λ k. absurd (k h));
@@ -148,7 +158,7 @@ module _ (t plans ends : List ℕ) (r : Run ℕ) (i : ℕ) where
   collides-told e h c crash =
       record {
         goes = λ g. (
-          λ q. absurd (false≢true (ap (λ (x : Replied ℕ). isClosed (x .run .closed)) (gives-inj (sym q ∙ e)))),
+          λ q. absurd (false≢true (ap (λ (x : Replied (Run ℕ)). isClosed (x .run .closed)) (gives-inj (sym q ∙ e)))),
           λ k. absurd (acts-collides (setting t) W i (k .1) crash),
         );
         collides = (λ q. (c, crash), λ k. e);
@@ -172,16 +182,7 @@ module _ (t plans ends : List ℕ) (r : Run ℕ) (i : ℕ) where
         impossible = (λ q. (h, inr s), λ k. e);
       }
 
-  -- the world after the step is the one that the scheduler's choice makes
-  its-acts : (a : ℕ) (π : List ℕ) → i < Task.members t → r .closed ≡ not-yet → rest P r i ≡ a ∷ π
-      → waits t a (r .shared) ≡ false
-      → able (system t) a (r .shared) ≡ true
-      → Acts (setting t) W i (worldIn t plans ends (stepped r i (result (system t) a (r .shared))))
-  its-acts a π h c left w b =
-      subst (Acts (setting t) W i) (sym (gone-world t P r c i h a π left b))
-      (acts h left (asks-within t a (r .shared) w) (able-sub t a (r .shared) b))
-
-  told : (x : Answer (Replied ℕ)) → pickOn t plans ends r i ≡ x → Pick.Picked (system t) (waits t) P r i x
+  told : (x : Answer (Replied (Run ℕ))) → pickOn t plans ends r i ≡ x → Pick.Picked (system t) (waits t) P r i x
       → PickAgrees t plans ends r i
   told x e (Pick.Picked.nobody h) =
       let n : ¬ (i < Task.members t) = λ l. omega arith in
@@ -203,12 +204,10 @@ module _ (t plans ends : List ℕ) (r : Run ℕ) (i : ℕ) where
         impossible = (λ q. (h, inl c), λ k. e);
       }
   told x e (Pick.Picked.over h c left) = stays-told e h (inr left)
-  told x e (Pick.Picked.waits {a = a} h c left w) =
-      stays-told e h (inl (Waiting.waiting left (waits-lack t a (r .shared) w)))
-  told x e (Pick.Picked.goes {a = a} {p = π} h c left w b) =
-      goes-told (result (system t) a (r .shared)) e h c (its-acts a π h c left w b)
-  told x e (Pick.Picked.collides {a = a} h c left w b) =
-      collides-told e h c (Collides.collides h left (asks-within t a (r .shared) w) (unable-not-sub t a (r .shared) b))
+  told x e (Pick.Picked.waits h c left w) = stays-told e h (inl (its-waits t P r c i h left w))
+  told x e (Pick.Picked.goes {a = a} h c left w b) =
+      goes-told (result (system t) a (r .shared)) e h c (its-acts t P r c i h left w b)
+  told x e (Pick.Picked.collides h c left w b) = collides-told e h c (its-collides t P r c i h left w b)
 
 pub pick-agrees : (t plans ends : List ℕ) (r : Run ℕ) (i : ℕ) → RunFits t plans ends r → PickAgrees t plans ends r i
 pick-agrees t plans ends r i f =

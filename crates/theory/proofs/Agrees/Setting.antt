@@ -34,7 +34,7 @@ module _ (t : List ℕ) (plans : List (List ℕ)) where
   -- ---- from executions to runs
 
   -- the pick of an agent that acts goes on to the same world
-  act-picked : (r : Run ℕ) (i : ℕ) (w : World (setting t)) (x : Answer (Replied ℕ)) → Picked t plans r i x
+  act-picked : (r : Run ℕ) (i : ℕ) (w : World (setting t)) (x : Answer (Replied (Run ℕ))) → Picked t plans r i x
       → Acts (setting t) (at r) i w
       → Going (passOver r x) × (w ≡ at (passOver r x))
   act-picked r i w (gives p) (Picked.goes g act) a = (g, acts-unique (setting t) (at r) i a act)
@@ -59,7 +59,8 @@ module _ (t : List ℕ) (plans : List (List ℕ)) where
   play-snoc r (j ∷ is) i = play-snoc (passOver r (pick (system t) (waits t) plans r j)) is i
 
   -- the pick of an agent that collides closes the run
-  crash-picked : (r : Run ℕ) (i : ℕ) (x : Answer (Replied ℕ)) → Picked t plans r i x → Collides (setting t) (at r) i
+  crash-picked : (r : Run ℕ) (i : ℕ) (x : Answer (Replied (Run ℕ))) → Picked t plans r i x
+      → Collides (setting t) (at r) i
       → passOver r x .closed ≡ by-fault Fault.collision
   crash-picked r i (gives p) (Picked.goes g act) k = absurd (acts-collides (setting t) (at r) i act k)
   crash-picked r i (gives p) (Picked.collides c s k′) k = c
@@ -122,7 +123,7 @@ module _ (t : List ℕ) (plans : List (List ℕ)) where
   execution-snoc (chosen b x) a = chosen b (execution-snoc x a)
 
   pick-led : (r : Run ℕ) {is : List ℕ} → Going r → Execution (setting t) (worldOf t plans) is (at r)
-      → (i : ℕ) (x : Answer (Replied ℕ)) → Picked t plans r i x
+      → (i : ℕ) (x : Answer (Replied (Run ℕ))) → Picked t plans r i x
       → Led (passOver r x)
   pick-led r g x i (gives p) (Picked.goes g′ act) = going g′ (execution-snoc x act)
   pick-led r g x i (gives p) (Picked.collides c s k) = crashed x k

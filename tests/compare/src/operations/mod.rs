@@ -1,12 +1,13 @@
 //! One module for each group of operations: inputs, the paper's answer, the answer found, and what
 //! differs.
 
+pub mod asked;
 pub mod pddl;
 mod read;
-mod run;
+pub mod run;
 pub mod sizes;
 pub mod solo;
-mod step;
+pub mod step;
 pub mod verdict;
 
 use crate::case::Checked;
@@ -22,7 +23,7 @@ pub fn case(case: u64, random: &mut Random, checked: &impl Interface) -> Checked
 
 /// Any operation on any input.
 fn any(random: &mut Random, checked: &impl Interface) -> Checked {
-    match random.below(100) {
+    match random.below(124) {
         0..=9 => step::task(random, checked),
         10..=17 => step::step(random, checked),
         18..=27 => solo::replay(random, checked),
@@ -32,7 +33,10 @@ fn any(random: &mut Random, checked: &impl Interface) -> Checked {
         66..=67 => run::start(random, checked),
         68..=74 => run::play(random, checked),
         75..=88 => verdict::verdict(random, checked),
-        _ => read::read(random, checked),
+        89..=99 => read::read(random, checked),
+        100..=107 => run::ask(random, checked),
+        108..=117 => run::commit(random, checked),
+        _ => asked::any(random, checked),
     }
 }
 

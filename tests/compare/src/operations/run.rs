@@ -1,17 +1,17 @@
-//! Joint replay, the start of a run, and picks on a run that is handed in.
+//! Joint replay, the start of a run, and picks on a run that is handed in, asked for or not.
 
 use super::step::random_out;
 use super::{member, task_words};
 use crate::case::{class, list, Checked, Comparison, Input};
 use crate::lent::Lent;
-use reference::generate::plans::{Bundle, Planner};
+use reference::generate::plans::{any_run, ticket, Bundle, Planner};
 use reference::generate::{contents, length_near};
-use reference::interface::{out_length, Interface};
+use reference::interface::{out_length, Interface, Ticket, RUN};
 use reference::paper::interface as paper;
 use reference::random::Random;
 
 /// A task for runs: one in which every member has a plan, where some tries find one.
-fn task_with_plans(random: &mut Random) -> (Vec<u64>, Option<Planner>, Bundle) {
+pub fn task_with_plans(random: &mut Random) -> (Vec<u64>, Option<Planner>, Bundle) {
     let mut left = 4;
     loop {
         let words = task_words(random, 6);
@@ -71,24 +71,48 @@ pub fn joint_replay_on(
     })
 }
 
-pub fn pick(random: &mut Random, checked: &impl Interface) -> Checked {
+/// A run that is handed in, and a member to pick: mostly one with a step left.
+pub struct Handed {
+    pub words: Vec<u64>,
+    pub bundle: Bundle,
+    pub run: Vec<u64>,
+    pub member: u8,
+}
+
+pub fn handed_in(random: &mut Random) -> Handed {
     let (words, planner, bundle) = task_with_plans(random);
     let mut run = match &planner {
         Some(planner) => planner.run(random, &bundle),
-        None => contents(random, 10),
+        None => any_run(random),
     };
     change_length(random, &mut run);
     let left = planner
         .filter(|_| random.chance(75))
         .and_then(|planner| planner.with_step_left(random, &bundle, &run));
     let member = left.unwrap_or_else(|| member(random, &words));
+    Handed { words, bundle, run, member }
+}
+
+pub fn pick(random: &mut Random, checked: &impl Interface) -> Checked {
+    let Handed { words, bundle, run, member } = handed_in(random);
     pick_on(random, checked, words, bundle, run, member)
+}
+
+pub fn ask(random: &mut Random, checked: &impl Interface) -> Checked {
+    let Handed { words, bundle, run, member } = handed_in(random);
+    ask_on(random, checked, words, bundle, run, member)
+}
+
+pub fn commit(random: &mut Random, checked: &impl Interface) -> Checked {
+    let Handed { words, bundle, run, member } = handed_in(random);
+    let ticket = ticket(random, &run, member);
+    commit_on(random, checked, words, bundle, run, ticket)
 }
 
 /// Makes a run too short or longer than asked, at times.
 fn change_length(random: &mut Random, run: &mut Vec<u64>) {
     match random.below(20) {
-        0 => run.truncate(random.one_of(&[0, 1, 9])),
+        0 => run.truncate(random.one_of(&[0, 1, RUN - 2, RUN - 1])),
         1 => run.extend(contents::<u64>(random, 3)),
         _ => {}
     }
@@ -103,13 +127,73 @@ pub fn pick_on(
     run: Vec<u64>,
     member: u8,
 ) -> Checked {
-    let Bundle { plans, ends } = bundle;
     let out = random_out(random, out_length::PICK);
+    on_run(
+        ("lawcheck_pick", "member", member.to_string()),
+        Held { words, bundle, run, out },
+        |words, plans, ends, run, out| paper::pick(words, plans, ends, run, member, out),
+        |words, plans, ends, run, out| checked.pick(words, plans, ends, run, member, out),
+    )
+}
+
+/// An ask for this member on this run, which stays as it was.
+pub fn ask_on(
+    random: &mut Random,
+    checked: &impl Interface,
+    words: Vec<u64>,
+    bundle: Bundle,
+    run: Vec<u64>,
+    member: u8,
+) -> Checked {
+    let out = random_out(random, out_length::ASK);
+    on_run(
+        ("lawcheck_ask", "member", member.to_string()),
+        Held { words, bundle, run, out },
+        |words, plans, ends, run, out| paper::ask(words, plans, ends, run, member, out),
+        |words, plans, ends, run, out| checked.ask(words, plans, ends, run, member, out),
+    )
+}
+
+/// The commit of this ticket on this run.
+pub fn commit_on(
+    random: &mut Random,
+    checked: &impl Interface,
+    words: Vec<u64>,
+    bundle: Bundle,
+    run: Vec<u64>,
+    ticket: Ticket,
+) -> Checked {
+    let out = random_out(random, out_length::COMMIT);
+    on_run(
+        ("lawcheck_commit", "ticket", format!("{ticket:?}")),
+        Held { words, bundle, run, out },
+        |words, plans, ends, run, out| paper::commit(words, plans, ends, run, ticket, out),
+        |words, plans, ends, run, out| checked.commit(words, plans, ends, run, ticket, out),
+    )
+}
+
+/// What a call on a run is handed beside a member or a ticket.
+struct Held {
+    words: Vec<u64>,
+    bundle: Bundle,
+    run: Vec<u64>,
+    out: Vec<u64>,
+}
+
+/// A call on a run, by the paper and as it is to be checked; named with the argument's name and
+/// text.
+fn on_run(
+    (function, argument, text): (&'static str, &'static str, String),
+    held: Held,
+    paper: impl Fn(&[u64], &[u16], &[u64], &mut [u64], &mut [u64]) -> u64,
+    checked: impl Fn(&[u64], &[u16], &[u64], &mut [u64], &mut [u64]) -> u64,
+) -> Checked {
+    let Held { words, bundle: Bundle { plans, ends }, run, out } = held;
     let (mut expected_run, mut expected_out) = (run.clone(), out.clone());
-    let expected = paper::pick(&words, &plans, &ends, &mut expected_run, member, &mut expected_out);
+    let expected = paper(&words, &plans, &ends, &mut expected_run, &mut expected_out);
     let (mut found_run, mut found_out) = (Lent::new(&run), Lent::new(&out));
-    let found = checked.pick(&words, &plans, &ends, found_run.slice(), member, found_out.slice());
-    let mut comparison = Comparison::new("lawcheck_pick");
+    let found = checked(&words, &plans, &ends, found_run.slice(), found_out.slice());
+    let mut comparison = Comparison::new(function);
     comparison.answer((expected, &expected_out), found, &found_out);
     comparison.slice("run", &expected_run, &found_run);
     let answer = expected_out.first().copied().unwrap_or(0);
@@ -118,7 +202,7 @@ pub fn pick_on(
             ("plans", list(&plans)),
             ("ends", list(&ends)),
             ("run at entry", list(&run)),
-            ("member", member.to_string()),
+            (argument, text),
             ("out at entry", list(&out)),
         ];
         (Input::Task(words), others)
@@ -127,7 +211,7 @@ pub fn pick_on(
 
 pub fn start(random: &mut Random, checked: &impl Interface) -> Checked {
     let words = task_words(random, 30);
-    let mut run = contents(random, 10);
+    let mut run = contents(random, RUN);
     change_length(random, &mut run);
     start_on(checked, words, run)
 }
@@ -149,7 +233,7 @@ pub fn play(random: &mut Random, checked: &impl Interface) -> Checked {
     let (words, planner, bundle) = task_with_plans(random);
     let (mut run, mut picks) = match &planner {
         Some(planner) => (planner.run(random, &bundle), planner.picks(random, &bundle)),
-        None => (contents(random, 10), contents(random, 3)),
+        None => (any_run(random), contents(random, 3)),
     };
     change_length(random, &mut run);
     for _ in 0..random.below(4) {

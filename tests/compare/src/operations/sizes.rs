@@ -1,17 +1,17 @@
 //! Cases made for a size: for each quantity that an answer, an index or a loop counts, every power
 //! of two up to its limit, one less and one more.
 
-use super::{read, run, solo, step, verdict};
+use super::{asked, read, run, solo, step, verdict};
 use crate::case::Checked;
 use reference::generate::families::counters;
-use reference::generate::plans::Bundle;
+use reference::generate::plans::{change_number, Bundle};
 use reference::generate::sizes::{
     amid, beside, digits, doubled, fault_after, fault_before, forest, last_action, last_fact,
     last_unsolvable, odometer, odometer_past, padded, records, scattered, sizes, tree, winder,
     zigzag, Back, Fault, Tree, Turns, Wants,
 };
 use reference::generate::{contents, shuffle, text, Law};
-use reference::interface::Interface;
+use reference::interface::{Interface, Ticket, CHANGE, LAST, RUN, SHARED};
 use reference::random::Random;
 use std::sync::OnceLock;
 
@@ -32,6 +32,9 @@ const MEMBERS: usize = 8;
 const ACTIONS: usize = 256;
 const RECORDS: usize = 265;
 const DIGITS: usize = 20;
+/// The most calls of a list of asks and commits.
+const CALLS: usize = 1025;
+const CHANGES: usize = LAST as usize;
 
 /// What a case is made for.
 #[derive(Clone, Copy, Debug)]
@@ -73,10 +76,29 @@ enum Made {
     PickCollision,
     PickImpossible,
     PickPastEnd,
+    PickChange,
+    AskMembers,
+    AskFacts,
+    AskGo,
+    AskWait,
+    AskCollision,
+    AskImpossible,
+    AskPastEnd,
+    AskChange,
+    CommitMembers,
+    CommitGo,
+    CommitCollision,
+    CommitImpossible,
+    CommitPastEnd,
+    CommitChange,
+    CommitStale,
     PlayGo,
     PlayCollision,
     PlayPassedOver,
     PlaySlack,
+    PlayChange,
+    PlayLast,
+    Calls,
     VerdictMembers,
     VerdictUnsolvable,
     VerdictMissedMember,
@@ -101,7 +123,7 @@ use Made::*;
 
 /// Everything that a case is made for, with the largest size. What is new comes last, so that the
 /// other cases keep their numbers.
-const MADE: [(Made, usize); 66] = [
+const MADE: [(Made, usize); 85] = [
     (TaskFacts, FACTS),
     (TaskFactAbove, FACTS - 1),
     (TaskMembers, MEMBERS),
@@ -168,6 +190,25 @@ const MADE: [(Made, usize); 66] = [
     (SearchBack, SLOW),
     (SearchZigzag, SLOW / 2 + 1),
     (VerdictForest, SLOW),
+    (PickChange, CHANGES),
+    (PlayChange, CHANGES),
+    (PlayLast, STEPS),
+    (AskMembers, MEMBERS),
+    (AskFacts, FACTS),
+    (AskGo, STEPS),
+    (AskWait, STEPS),
+    (AskCollision, STEPS),
+    (AskImpossible, STEPS),
+    (AskPastEnd, STEPS),
+    (AskChange, CHANGES),
+    (CommitMembers, MEMBERS),
+    (CommitGo, STEPS),
+    (CommitCollision, STEPS),
+    (CommitImpossible, STEPS),
+    (CommitPastEnd, STEPS),
+    (CommitChange, CHANGES),
+    (CommitStale, CHANGES),
+    (Calls, CALLS),
 ];
 
 /// Every case that is made for a size, in turn.
@@ -249,7 +290,7 @@ impl Made {
             StartFacts => {
                 let mut law = last_fact(random, size);
                 law.initial |= 1 << (size - 1);
-                let run = contents(random, 10);
+                let run = contents(random, RUN);
                 run::start_on(checked, law.words(), run)
             }
             SoloMembers => {
@@ -322,10 +363,20 @@ impl Made {
             }
             JointSuccess | JointFault(_) | JointOpen | JointUnsolved | JointBadEntry
             | JointBadPick => self.joint(size, random, checked),
-            PickMembers | PickGo | PickCollision | PickImpossible | PickPastEnd => {
-                self.pick(size, random, checked)
+            PickMembers | PickGo | PickCollision | PickImpossible | PickPastEnd | PickChange
+            | AskMembers | AskGo | AskWait | AskCollision | AskImpossible | AskPastEnd
+            | AskChange | CommitMembers | CommitGo | CommitCollision | CommitImpossible
+            | CommitPastEnd | CommitChange | CommitStale => self.pick(size, random, checked),
+            AskFacts => {
+                let law = last_fact(random, size);
+                let mut run = vec![0; RUN];
+                run[SHARED] = random.word() & law.known();
+                run::ask_on(random, checked, law.words(), bundle(vec![vec![0]]), run, 0)
             }
-            PlayGo | PlayCollision | PlayPassedOver | PlaySlack => self.play(size, random, checked),
+            PlayGo | PlayCollision | PlayPassedOver | PlaySlack | PlayChange | PlayLast => {
+                self.play(size, random, checked)
+            }
+            Calls => asked::in_turn(random, checked, size),
             VerdictMembers => {
                 let law = beside(&vec![odometer(2); size]);
                 judged(random, checked, law, [2, 1 << size])
@@ -468,41 +519,65 @@ impl Made {
         run::joint_replay_on(random, checked, turns.law.words(), bundle(plans), picks)
     }
 
-    /// A pick of a member that stands at about the place `size`.
+    /// A pick, an ask or a commit of a member that stands at about the place `size`, or of a run
+    /// with that change number.
     fn pick(self, size: usize, random: &mut Random, checked: &impl Interface) -> Checked {
-        let members = if matches!(self, PickMembers) { size } else { random.between(1, MEMBERS) };
+        let last = matches!(self, PickMembers | AskMembers | CommitMembers);
+        let counts = matches!(self, PickChange | AskChange | CommitChange | CommitStale);
+        let members = if last { size } else { random.between(1, MEMBERS) };
         let turns = Turns::new(members);
-        let member = if matches!(self, PickMembers) { size - 1 } else { random.below(members) };
-        let (steps, shared_fact) =
-            (if matches!(self, PickMembers) { 2 } else { size }, 1 << members);
+        let member = if last { size - 1 } else { random.below(members) };
+        let (steps, shared_fact) = (if last || counts { 2 } else { size }, 1 << members);
         let mut plans: Vec<Vec<u16>> =
             (0..members).map(|member| turns.plan(member, random.below(3))).collect();
         plans[member] = turns.plan(member, steps);
-        let mut run = vec![0; 10];
-        run[9] = turns.law.known();
+        let mut run = vec![0; RUN];
+        run[SHARED] = turns.law.known();
         run[1 + member] = steps as u64;
+        run[CHANGE] = if counts { size as u64 } else { steps as u64 };
         match self {
-            PickCollision => {
+            PickCollision | AskCollision | CommitCollision => {
                 plans[member].push(turns.needs(member));
-                run[9] &= !shared_fact;
+                run[SHARED] &= !shared_fact;
             }
-            PickImpossible if random.chance(50) => {
+            AskWait => {
                 plans[member].push(turns.waits(member));
-                run[9] &= !shared_fact;
+                run[SHARED] &= !shared_fact;
             }
-            PickImpossible => {}
-            PickPastEnd => run[1 + member] += 1,
+            PickImpossible | CommitImpossible if random.chance(50) => {
+                plans[member].push(turns.waits(member));
+                run[SHARED] &= !shared_fact;
+            }
+            PickImpossible | AskImpossible | CommitImpossible => {}
+            PickPastEnd | AskPastEnd | CommitPastEnd => run[1 + member] += 1,
             _ => plans[member].extend(turns.plan(member, 2)),
         }
-        run::pick_on(random, checked, turns.law.words(), bundle(plans), run, member as u8)
+        let mut change = run[CHANGE] as u32;
+        if matches!(self, CommitStale) {
+            run[CHANGE] = u64::from(change_number(random));
+            change = (run[CHANGE] as u32) ^ size as u32;
+        }
+        let (words, bundle, member) = (turns.law.words(), bundle(plans), member as u8);
+        match self {
+            PickMembers | PickGo | PickCollision | PickImpossible | PickPastEnd | PickChange => {
+                run::pick_on(random, checked, words, bundle, run, member)
+            }
+            AskMembers | AskGo | AskWait | AskCollision | AskImpossible | AskPastEnd
+            | AskChange => run::ask_on(random, checked, words, bundle, run, member),
+            _ => {
+                let ticket = Ticket { member, change };
+                run::commit_on(random, checked, words, bundle, run, ticket)
+            }
+        }
     }
 
-    /// About `size` picks played on a run at its start.
+    /// About `size` picks played on a run at its start, on one with that change number, or on one
+    /// that the last of these picks but one brings to the last change number.
     fn play(self, size: usize, random: &mut Random, checked: &impl Interface) -> Checked {
         let turns = Turns::new(random.between(2, MEMBERS));
         let members = turns.law.goals.len();
-        let picked = if matches!(self, PlaySlack) { 3 } else { size };
-        let lengths = shares(random, members, picked);
+        let few = matches!(self, PlaySlack | PlayChange);
+        let lengths = shares(random, members, if few { 3 } else { size });
         let mut plans: Vec<Vec<u16>> =
             lengths.iter().enumerate().map(|(member, &steps)| turns.plan(member, steps)).collect();
         let mut picks = in_any_order(random, &lengths);
@@ -515,8 +590,13 @@ impl Made {
             PlayPassedOver => picks.push(random.one_of(&[members as u8, u8::MAX, 0])),
             _ => {}
         }
-        let mut run = vec![0; 10];
-        run[9] = turns.law.initial;
+        let mut run = vec![0; RUN];
+        run[SHARED] = turns.law.initial;
+        match self {
+            PlayChange => run[CHANGE] = size as u64,
+            PlayLast => run[CHANGE] = u64::from(LAST) + 1 - size as u64,
+            _ => {}
+        }
         let free = if matches!(self, PlaySlack) { size } else { random.below(3) };
         let answers = contents(random, picks.len() + free);
         run::play_on(checked, turns.law.words(), bundle(plans), run, picks, answers)
@@ -558,7 +638,7 @@ fn in_any_order(random: &mut Random, lengths: &[usize]) -> Vec<u8> {
     picks
 }
 
-fn bundle(plans: Vec<Vec<u16>>) -> Bundle {
+pub fn bundle(plans: Vec<Vec<u16>>) -> Bundle {
     let mut bundle = Bundle::default();
     for plan in plans {
         bundle.plans.extend(plan);

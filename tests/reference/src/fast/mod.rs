@@ -12,7 +12,7 @@ pub use solo::{copies, Copies, DEAD};
 pub use text::read_words;
 pub use verdict::count_configurations;
 
-use crate::interface::{give, out_length, Interface, Pddl, TOO_SHORT};
+use crate::interface::{give, no_run, out_length, Interface, Pddl, Ticket, RUN, TOO_SHORT};
 
 /// An action of a checked task.
 #[derive(Clone, Copy, Debug)]
@@ -200,14 +200,44 @@ impl<T: Twin> Interface for T {
         member: u8,
         out: &mut [u64],
     ) -> u64 {
-        if out.len() < out_length::PICK || run.len() < run::WORDS {
+        if out.len() < out_length::PICK || no_run(run) {
             return TOO_SHORT;
         }
         given(out, run::pick(task, plans, ends, run, member))
     }
 
+    fn ask(
+        &self,
+        task: &[u64],
+        plans: &[u16],
+        ends: &[u64],
+        run: &mut [u64],
+        member: u8,
+        out: &mut [u64],
+    ) -> u64 {
+        if out.len() < out_length::ASK || no_run(run) {
+            return TOO_SHORT;
+        }
+        given(out, run::ask(task, plans, ends, run, member))
+    }
+
+    fn commit(
+        &self,
+        task: &[u64],
+        plans: &[u16],
+        ends: &[u64],
+        run: &mut [u64],
+        ticket: Ticket,
+        out: &mut [u64],
+    ) -> u64 {
+        if out.len() < out_length::COMMIT || no_run(run) {
+            return TOO_SHORT;
+        }
+        given(out, run::commit(task, plans, ends, run, ticket))
+    }
+
     fn start(&self, task: &[u64], run: &mut [u64]) -> u64 {
-        if run.len() < run::WORDS {
+        if run.len() < RUN {
             return TOO_SHORT;
         }
         given(&mut [], run::start(task, run))
@@ -222,7 +252,7 @@ impl<T: Twin> Interface for T {
         picks: &[u8],
         answers: &mut [u64],
     ) -> u64 {
-        if run.len() < run::WORDS || answers.len() < picks.len() {
+        if no_run(run) || answers.len() < picks.len() {
             return TOO_SHORT;
         }
         given(&mut [], run::play_picks(task, plans, ends, run, picks, answers))

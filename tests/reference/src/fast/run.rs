@@ -2,9 +2,7 @@
 
 use super::solo::{entries, play};
 use super::{Action, Task};
-
-/// Words of a run: collided, eight places, the shared copy.
-pub(super) const WORDS: usize = 10;
+use crate::interface::{Ticket, CHANGE, LAST, RUN, SHARED};
 
 /// Checked plans: each member's part of the plan slice.
 pub struct Plans<'a>(pub Vec<&'a [u16]>);
@@ -123,14 +121,22 @@ struct Held<'a> {
     plans: Plans<'a>,
     places: [usize; 8],
     shared: u64,
+    change: u32,
     collided: bool,
+}
+
+/// What a step would do.
+enum Next {
+    Go(u64),
+    Wait,
+    Collision,
 }
 
 impl<'a> Held<'a> {
     fn check(task: &[u64], plans: &'a [u16], ends: &[u64], run: &[u64]) -> Result<Held<'a>, u64> {
         let task = Task::check(task)?;
         let plans = Plans::check(&task, plans, ends)?;
-        let shared = run[9];
+        let shared = run[SHARED];
         if shared & !task.known != 0 {
             return Err(4);
         }
@@ -141,27 +147,47 @@ impl<'a> Held<'a> {
             }
             places[member] = run[1 + member] as usize;
         }
-        Ok(Held { task, plans, places, shared, collided: run[0] != 0 })
+        let change = run[CHANGE] as u32;
+        Ok(Held { task, plans, places, shared, change, collided: run[0] != 0 })
     }
 
-    /// A pick: 0 go, 1 collision.
-    fn pick(&mut self, member: u8) -> Result<u64, u64> {
-        let member = member as usize;
-        if member >= self.task.members() {
+    /// What a member's next step would do: 8 no member, 13 no step left or a closed run.
+    fn next(&self, member: u8) -> Result<Next, u64> {
+        if member as usize >= self.task.members() {
             return Err(8);
         }
-        match self.plans.next(&self.task, &self.places, member) {
-            Some(action) if !self.collided && !action.waits(self.shared) => {
-                if action.applicable(self.shared) {
-                    self.shared = action.apply(self.shared);
-                    self.places[member] += 1;
-                    Ok(0)
-                } else {
-                    self.collided = true;
-                    Ok(1)
-                }
-            }
+        match self.plans.next(&self.task, &self.places, member as usize) {
+            Some(action) if !self.collided => Ok(if action.waits(self.shared) {
+                Next::Wait
+            } else if !action.applicable(self.shared) {
+                Next::Collision
+            } else {
+                Next::Go(action.apply(self.shared))
+            }),
             _ => Err(13),
+        }
+    }
+
+    /// A pick: 0 go, 1 collision. With a ticket's change number that has to be the run's.
+    fn pick(&mut self, member: u8, change: Option<u32>) -> Result<u64, u64> {
+        let stale = change.is_some_and(|change| change != self.change);
+        match self.next(member) {
+            Err(8) => Err(8),
+            _ if stale => Err(19),
+            Err(refusal) => Err(refusal),
+            Ok(Next::Wait) => Err(13),
+            Ok(_) if self.change == LAST => Err(20),
+            Ok(Next::Go(shared)) => {
+                self.shared = shared;
+                self.places[member as usize] += 1;
+                self.change += 1;
+                Ok(0)
+            }
+            Ok(Next::Collision) => {
+                self.collided = true;
+                self.change += 1;
+                Ok(1)
+            }
         }
     }
 
@@ -170,7 +196,8 @@ impl<'a> Held<'a> {
         for (word, &place) in run[1..].iter_mut().zip(&self.places[..self.task.members()]) {
             *word = place as u64;
         }
-        run[9] = self.shared;
+        run[SHARED] = self.shared;
+        run[CHANGE] = self.change as u64;
     }
 }
 
@@ -182,15 +209,44 @@ pub(super) fn pick(
     member: u8,
 ) -> Result<[u64; 1], u64> {
     let mut held = Held::check(task, plans, ends, run)?;
-    let answer = held.pick(member)?;
+    let answer = held.pick(member, None)?;
+    held.write(run);
+    Ok([answer])
+}
+
+pub(super) fn ask(
+    task: &[u64],
+    plans: &[u16],
+    ends: &[u64],
+    run: &[u64],
+    member: u8,
+) -> Result<[u64; 4], u64> {
+    let held = Held::check(task, plans, ends, run)?;
+    let (kind, shared) = match held.next(member)? {
+        Next::Go(shared) => (0, shared),
+        Next::Wait => (1, 0),
+        Next::Collision => (2, 0),
+    };
+    Ok([kind, shared, member as u64, held.change as u64])
+}
+
+pub(super) fn commit(
+    task: &[u64],
+    plans: &[u16],
+    ends: &[u64],
+    run: &mut [u64],
+    ticket: Ticket,
+) -> Result<[u64; 1], u64> {
+    let mut held = Held::check(task, plans, ends, run)?;
+    let answer = held.pick(ticket.member, Some(ticket.change))?;
     held.write(run);
     Ok([answer])
 }
 
 pub(super) fn start(task: &[u64], run: &mut [u64]) -> Result<[u64; 0], u64> {
     let task = Task::check(task)?;
-    run[..WORDS].fill(0);
-    run[WORDS - 1] = task.initial;
+    run[..RUN].fill(0);
+    run[SHARED] = task.initial;
     Ok([])
 }
 
@@ -204,7 +260,7 @@ pub(super) fn play_picks(
 ) -> Result<[u64; 0], u64> {
     let mut held = Held::check(task, plans, ends, run)?;
     for (&member, answer) in picks.iter().zip(answers) {
-        *answer = held.pick(member).unwrap_or_else(|refusal| refusal);
+        *answer = held.pick(member, None).unwrap_or_else(|refusal| refusal);
     }
     held.write(run);
     Ok([])

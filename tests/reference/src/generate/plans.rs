@@ -1,6 +1,8 @@
 //! Plans, ends, picks and runs for a valid task: mostly good ones, and bad ones of every kind.
 
 use crate::fast::{copies, outcome, Copies, Outcome, Plans, Task};
+use crate::generate::contents;
+use crate::interface::{Ticket, CHANGE, LAST, RUN, SHARED};
 use crate::random::Random;
 
 /// The most local copies that are listed to find plans.
@@ -192,7 +194,7 @@ impl Planner {
         (!found.is_empty()).then(|| random.one_of(&found))
     }
 
-    /// A run of ten words or so: one that picks lead to, or any at all.
+    /// A run of eleven words: one that picks lead to, or any at all, at any change number.
     pub fn run(&self, random: &mut Random, bundle: &Bundle) -> Vec<u64> {
         let mut run = Player::start(&self.task);
         if let Ok(plans) = Plans::check(&self.task, &bundle.plans, &bundle.ends) {
@@ -201,12 +203,13 @@ impl Planner {
                 run.pick(&self.task, &plans, member);
             }
         }
-        let mut words = vec![0; 10];
+        let mut words = vec![0; RUN];
         words[0] = run.collided as u64;
-        for (word, place) in words[1..9].iter_mut().zip(run.places) {
+        for (word, place) in words[1..SHARED].iter_mut().zip(run.places) {
             *word = place as u64;
         }
-        words[9] = run.shared;
+        words[SHARED] = run.shared;
+        words[CHANGE] = change_word(random);
         for percent in [40, 30] {
             if random.chance(percent) {
                 self.spoil_run(random, &mut words);
@@ -220,9 +223,11 @@ impl Planner {
         let members = self.task.members();
         match random.below(8) {
             0 => words[0] = random.one_of(&[1, 2, u64::MAX, 1 << 63]),
-            1 => words[9] = random.word() & self.task.known,
-            2 => words[9] = random.word() & self.task.known,
-            3 => words[9] = random.one_of(&[u64::MAX, self.task.known.wrapping_add(1), 1 << 63]),
+            1 | 2 => words[SHARED] = random.word() & self.task.known,
+            3 => {
+                let above = [u64::MAX, self.task.known.wrapping_add(1), 1 << 63];
+                words[SHARED] = random.one_of(&above);
+            }
             4 => {
                 words[1 + random.below(members)] =
                     random.one_of(&[u64::MAX, 1 << 32, 1 << 63, 1000])
@@ -233,7 +238,7 @@ impl Planner {
             }
             6 => {
                 // Places of members that the task does not have.
-                for word in &mut words[1 + members..9] {
+                for word in &mut words[1 + members..SHARED] {
                     *word = random.word();
                 }
             }
@@ -244,6 +249,45 @@ impl Planner {
             }
         }
     }
+}
+
+/// A change number: mostly one of the first or the last.
+pub fn change_number(random: &mut Random) -> u32 {
+    let (any, bit) = (random.word() as u32, 1 << random.below(32));
+    let few = random.below(20) as u32;
+    random.one_of(&[0, 1, 1, few, LAST - 2, LAST - 1, LAST - 1, LAST, LAST, bit, bit - 1, any])
+}
+
+/// A run's last word: mostly a change number, else one too large for 32 bits.
+fn change_word(random: &mut Random) -> u64 {
+    let change = u64::from(change_number(random));
+    let above = [1 << 32, change | 1 << 32, change | 1 << 63, u64::MAX, u64::from(LAST) + 2];
+    if random.chance(96) {
+        change
+    } else {
+        random.one_of(&above)
+    }
+}
+
+/// The words of a run without a task: anything, with a change number.
+pub fn any_run(random: &mut Random) -> Vec<u64> {
+    let mut words: Vec<u64> = contents(random, RUN);
+    words[CHANGE] = change_word(random);
+    words
+}
+
+/// A ticket for a member of a run: mostly a good one, else one of another time.
+pub fn ticket(random: &mut Random, run: &[u64], member: u8) -> Ticket {
+    // Cut to 32 bits where the run's number is too large.
+    let now = run.get(CHANGE).map_or(0, |&word| word as u32);
+    let bit = 1 << random.below(32);
+    let other = [now.wrapping_sub(1), now.wrapping_add(1), 0, LAST, now ^ bit];
+    let change = match random.below(20) {
+        0..=12 => now,
+        13 => random.word() as u32,
+        _ => random.one_of(&other),
+    };
+    Ticket { member, change }
 }
 
 /// Ends that fall, are too few or too many, or miss the plan slice's length.

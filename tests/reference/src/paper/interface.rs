@@ -1,12 +1,12 @@
 //! The operations as the C interface lends them: a refusal number or 0, and the answer's numbers in
 //! `out`. The verdict stands apart, with its many slices.
 
-use super::run::{self, Outcome, Pick, RUN};
+use super::run::{self, Outcome, Pick};
 use super::solo::{self, Found, Replay};
 use super::step::{self, Step};
 use super::verdict::Class;
 use super::{pddl, task, text};
-use crate::interface::{give, out_length, TOO_SHORT};
+use crate::interface::{give, no_run, out_length, Ticket, RUN, TOO_SHORT};
 
 /// An outcome's number and member.
 pub fn outcome_numbers(outcome: Outcome) -> (u64, u64) {
@@ -104,10 +104,52 @@ pub fn pick(
     member: u8,
     out: &mut [u64],
 ) -> u64 {
-    if out.len() < out_length::PICK || run.len() < RUN {
+    if out.len() < out_length::PICK || no_run(run) {
         return TOO_SHORT;
     }
     match run::pick(words, plans, ends, &mut run[..RUN], member) {
+        Err(refusal) => refusal,
+        Ok(Pick::Go) => give(out, &[0]),
+        Ok(Pick::Collision) => give(out, &[1]),
+    }
+}
+
+pub fn ask(
+    words: &[u64],
+    plans: &[u16],
+    ends: &[u64],
+    run: &[u64],
+    member: u8,
+    out: &mut [u64],
+) -> u64 {
+    if out.len() < out_length::ASK || no_run(run) {
+        return TOO_SHORT;
+    }
+    match run::ask(words, plans, ends, &run[..RUN], member) {
+        Err(refusal) => refusal,
+        Ok((answer, Ticket { member, change })) => {
+            let (kind, new) = match answer {
+                Step::Go(new) => (0, new.word()),
+                Step::Wait => (1, 0),
+                Step::Collision => (2, 0),
+            };
+            give(out, &[kind, new, member as u64, change as u64])
+        }
+    }
+}
+
+pub fn commit(
+    words: &[u64],
+    plans: &[u16],
+    ends: &[u64],
+    run: &mut [u64],
+    ticket: Ticket,
+    out: &mut [u64],
+) -> u64 {
+    if out.len() < out_length::COMMIT || no_run(run) {
+        return TOO_SHORT;
+    }
+    match run::commit(words, plans, ends, &mut run[..RUN], ticket) {
         Err(refusal) => refusal,
         Ok(Pick::Go) => give(out, &[0]),
         Ok(Pick::Collision) => give(out, &[1]),
@@ -129,7 +171,7 @@ pub fn play(
     picks: &[u8],
     answers: &mut [u64],
 ) -> u64 {
-    if run.len() < RUN || answers.len() < picks.len() {
+    if no_run(run) || answers.len() < picks.len() {
         return TOO_SHORT;
     }
     match run::play_picks(words, plans, ends, &mut run[..RUN], picks) {

@@ -1,13 +1,12 @@
-//! "Runs": joint replay, and a pick on a run that is handed in.
+//! "Runs": joint replay, and picks on a run that is handed in, which has a change number: asked for
+//! and then committed (request F-4), or at once.
 
 use super::facts::Facts;
 use super::solo::{entries, play, Replay};
 use super::step::{step, Step};
 use super::task::{check, Task};
 use super::Refusal;
-
-/// Words of a run that is handed in: collided, eight places, the shared copy.
-pub const RUN: usize = 10;
+use crate::interface::{Ticket, CHANGE, LAST, SHARED};
 
 /// A run beside its plans.
 #[derive(Clone, Debug, PartialEq, Eq, PartialOrd, Ord)]
@@ -149,17 +148,65 @@ pub fn joint_replay(
     Ok(Replayed { outcome: run.outcome(&task, &plans), done, shared: run.shared })
 }
 
-/// A run of ten words that is handed in, with its task and plans. Places of members that the task
-/// does not have stay aside.
+/// The dispatcher's run, with the count of the picks that were done on it.
+#[derive(Clone, Debug, PartialEq, Eq)]
+struct Counted {
+    run: Run,
+    change: u32,
+}
+
+impl Counted {
+    /// A pick: 8 no such member, 13 no possible pick, 20 the count is at its end; otherwise the run
+    /// is updated, and one more pick was done, a colliding one too.
+    fn pick(&mut self, task: &Task, plans: &[Vec<u16>], member: u8) -> Result<Pick, Refusal> {
+        let mut after = self.run.clone();
+        let answer = after.pick(task, plans, member)?;
+        if self.change == LAST {
+            return Err(20);
+        }
+        self.run = after;
+        self.change += 1;
+        Ok(answer)
+    }
+
+    /// What the member's next step answers, and the ticket for it: 8 no such member, 13 no step
+    /// left, or already collided.
+    fn ask(&self, task: &Task, plans: &[Vec<u16>], member: u8) -> Result<(Step, Ticket), Refusal> {
+        if member as usize >= task.members() {
+            return Err(8);
+        }
+        if self.run.collided {
+            return Err(13);
+        }
+        match self.run.next(task, plans, member as usize) {
+            None => Err(13),
+            Some(answer) => Ok((answer, Ticket { member, change: self.change })),
+        }
+    }
+
+    /// The pick of a ticket: 8, then 19 another change number than the run's, then as any pick.
+    fn commit(&mut self, task: &Task, plans: &[Vec<u16>], ticket: Ticket) -> Result<Pick, Refusal> {
+        if ticket.member as usize >= task.members() {
+            return Err(8);
+        }
+        if ticket.change != self.change {
+            return Err(19);
+        }
+        self.pick(task, plans, ticket.member)
+    }
+}
+
+/// A run of eleven words that is handed in, with its task and plans. Places of members that the
+/// task does not have stay aside.
 fn handed_in(
     words: &[u64],
     plan_slice: &[u16],
     ends: &[u64],
     run: &[u64],
-) -> Result<(Task, Vec<Vec<u16>>, Run), Refusal> {
+) -> Result<(Task, Vec<Vec<u16>>, Counted), Refusal> {
     let task = check(words)?;
     let plans = plans(&task, plan_slice, ends)?;
-    let shared = Facts::of_word(run[RUN - 1]);
+    let shared = Facts::of_word(run[SHARED]);
     if shared.exceeds(task.facts) {
         return Err(4);
     }
@@ -171,20 +218,22 @@ fn handed_in(
         }
         places.push(place as usize);
     }
-    let held = Run { collided: run[0] != 0, places, shared };
+    let change = u32::try_from(run[CHANGE]).expect("a change number of 32 bits");
+    let held = Counted { run: Run { collided: run[0] != 0, places, shared }, change };
     Ok((task, plans, held))
 }
 
-/// Writes a run to its ten words.
-fn hand_back(held: &Run, run: &mut [u64]) {
-    run[0] = if held.collided { 1 } else { 0 };
-    for (member, &place) in held.places.iter().enumerate() {
+/// Writes a run to its eleven words.
+fn hand_back(held: &Counted, run: &mut [u64]) {
+    run[0] = if held.run.collided { 1 } else { 0 };
+    for (member, &place) in held.run.places.iter().enumerate() {
         run[1 + member] = place as u64;
     }
-    run[RUN - 1] = held.shared.word();
+    run[SHARED] = held.run.shared.word();
+    run[CHANGE] = held.change as u64;
 }
 
-/// The operation pick, on a run of ten words.
+/// The operation pick, on a run of eleven words.
 pub fn pick(
     words: &[u64],
     plan_slice: &[u16],
@@ -198,15 +247,42 @@ pub fn pick(
     Ok(answer)
 }
 
-/// The start of a run, as ten words.
+/// The operation ask, on a run of eleven words.
+pub fn ask(
+    words: &[u64],
+    plan_slice: &[u16],
+    ends: &[u64],
+    run: &[u64],
+    member: u8,
+) -> Result<(Step, Ticket), Refusal> {
+    let (task, plans, held) = handed_in(words, plan_slice, ends, run)?;
+    held.ask(&task, &plans, member)
+}
+
+/// The operation commit, on a run of eleven words.
+pub fn commit(
+    words: &[u64],
+    plan_slice: &[u16],
+    ends: &[u64],
+    run: &mut [u64],
+    ticket: Ticket,
+) -> Result<Pick, Refusal> {
+    let (task, plans, mut held) = handed_in(words, plan_slice, ends, run)?;
+    let answer = held.commit(&task, &plans, ticket)?;
+    hand_back(&held, run);
+    Ok(answer)
+}
+
+/// The start of a run, as eleven words.
 pub fn start(words: &[u64], run: &mut [u64]) -> Result<(), Refusal> {
     let task = check(words)?;
     run.fill(0);
-    hand_back(&Run::start(&task), run);
+    hand_back(&Counted { run: Run::start(&task), change: 0 }, run);
     Ok(())
 }
 
-/// Picks in turn on a run of ten words, and what each answers; an impossible one is passed over.
+/// Picks in turn on a run of eleven words, and what each answers; one that is refused is passed
+/// over.
 pub fn play_picks(
     words: &[u64],
     plan_slice: &[u16],

@@ -1,0 +1,46 @@
+-- `capi_run::asked_numbers` meets its contract: one law for each decision. Assumes nothing.
+use borrow.Author.Needs.{needs}
+use Rattle.capi_run.proofs.Told.{asked-go, asked-wait, asked-collision}
+use Rattle.capi_run.proofs.asked_numbers.Statement.{statement}
+use Rattle.capi_run.proofs.asked_numbers.Tie as tie
+
+cast-j : tie.Need-cast-j
+cast-j c = search needs
+
+cast-n : tie.Need-cast-n
+cast-n c = search needs
+
+enum-known-d : tie.Need-enum-known-d
+enum-known-d c = search needs
+
+to-word-requires : tie.Need-to-word-requires
+to-word-requires c κs = search needs
+
+enum-told : tie.Need-enum-told
+enum-told c = search needs
+
+enum-told-2 : tie.Need-enum-told-2
+enum-told-2 c = search needs
+
+returns : tie.Need-returns
+returns c = search asked-go
+
+returns-2 : tie.Need-returns-2
+returns-2 c = search asked-wait
+
+returns-3 : tie.Need-returns-3
+returns-3 c = search asked-collision
+
+pub asked-numbers-spec : {M : Type 1} → statement M
+asked-numbers-spec =
+    tie.close
+    (tie.spec
+    cast-j
+    cast-n
+    enum-known-d
+    to-word-requires
+    enum-told
+    enum-told-2
+    returns
+    returns-2
+    returns-3)

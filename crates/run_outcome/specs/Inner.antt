@@ -1,0 +1,2 @@
+-- Inner invariants: no promise of the public functions.
+pub mod Meaning
