@@ -21,7 +21,7 @@ use Rattle.theory.proofs.Accepted.{accepted}
 use Rattle.theory.proofs.Loops.{Rest, any-holds, any-onward, any-ends}
 use Rattle.theory.proofs.Plans.{rest-is}
 use Rattle.theory.proofs.Refusals.{refused-gives, gives-inj}
-use Rattle.theory.proofs.Picks.{advanced, pick-next}
+use Rattle.theory.proofs.Picks.{advanced, next-nobody, next-closed, next-over, next-decides, pick-next}
 use Rattle.mask.specs.Number.{sharedNumber}
 use Rattle.mask.specs.declared.Shared.{Shared}
 use Rattle.fault.specs.declared.Fault.the-variants.{Collision as Crash}
@@ -41,35 +41,21 @@ use Rattle.run_pick.specs.declared.Reply.{Reply}
 use Rattle.run_pick.specs.declared.Reply.the-variants.{Go, Collision}
 use Rattle.run_pick.specs.declared.Picked.{Picked}
 
--- ---- the next step
+-- ---- the next step, with the plans in one slice
 
-module _ (t plans ends : List ℕ) (r : Paper.Run ℕ) (j : ℕ) where
-  next-nobody : members t ≤ j → nextIn t plans ends r j ≡ refused 8
-  unfolding nextStep
-  next-nobody h = rw (le-ltb j (members t) h)
+module _ (t plans ends : List ℕ) (r : Paper.Run ℕ) (j : ℕ) (h : j < members t) (runs : r .closed ≡ not-yet) where
+  next-done : length (planOf plans ends j) ≤ r .places j → nextIn t plans ends r j ≡ refused 13
+  next-done l =
+      next-over (system t) (waits t) (plansIn t plans ends) r j h runs
+      (rest-is (members t) plans ends r j h ∙ drop-of-length-le (planOf plans ends j) l)
 
-  module _ (h : j < members t) where
-    next-closed : isClosed (r .closed) ≡ true → nextIn t plans ends r j ≡ refused 13
-    unfolding nextStep
-    next-closed e = rw (lt-ltb j (members t) h, e)
-
-    module _ (runs : r .closed ≡ not-yet) where
-      next-done : length (planOf plans ends j) ≤ r .places j → nextIn t plans ends r j ≡ refused 13
-      unfolding nextStep
-      next-done l =
-          let e : rest (plansIn t plans ends) r j ≡ [] =
-          rest-is (members t) plans ends r j h ∙ drop-of-length-le (planOf plans ends j) l in
-          rw (lt-ltb j (members t) h, e, runs)
-
-      -- the routine decides it
-      next-decides : r .places j < length (planOf plans ends j)
-          → nextIn t plans ends r j
-          ≡ gives (routine (system t) (waits t) (getD (planOf plans ends j) (r .places j) 0) (r .shared))
-      unfolding nextStep
-      next-decides l =
-          let q = drop-cons (planOf plans ends j) (r .places j) 0 l in
-          let e : rest (plansIn t plans ends) r j ≡ _ ∷ _ = rest-is (members t) plans ends r j h ∙ q in
-          rw (lt-ltb j (members t) h, e, runs)
+  -- the routine decides it
+  next-routine : r .places j < length (planOf plans ends j)
+      → nextIn t plans ends r j
+      ≡ gives (routine (system t) (waits t) (getD (planOf plans ends j) (r .places j) 0) (r .shared))
+  next-routine l =
+      next-decides (system t) (waits t) (plansIn t plans ends) r j h runs
+      (rest-is (members t) plans ends r j h ∙ drop-cons (planOf plans ends j) (r .places j) 0 l)
 
 -- ---- a pick
 
@@ -127,14 +113,15 @@ module _ (t plans ends : List ℕ) (run : Run) (j n : ℕ) (e : n ≡ members t)
   Next = nextIn t plans ends (runOf run) j
 
   pub way-nobody : n ≤ j → refused 8 ≡ Next
-  way-nobody h = sym (next-nobody t plans ends (runOf run) j (omega arith))
+  way-nobody h = sym (next-nobody (system t) (waits t) (plansIn t plans ends) (runOf run) j (omega arith))
 
   module _ (h : j < n) where
     its : j < members t
     its = omega arith
 
     pub way-closed : (b : Bool) → b ≡ isClosed (closedOf (run .closed)) → b ≡ true → refused 13 ≡ Next
-    way-closed b is c = sym (next-closed t plans ends (runOf run) j its (sym is ∙ c))
+    way-closed b is c =
+        sym (next-closed (system t) (waits t) (plansIn t plans ends) (runOf run) j its (sym is ∙ c))
 
     module _ (b : Bool) (is : b ≡ isClosed (closedOf (run .closed))) (c : b ≡ false) (k m : ℕ)
         (e₁ : k ≡ getD (run .places) j 0) (e₂ : m ≡ length (planOf plans ends j)) where
@@ -150,7 +137,7 @@ module _ (t plans ends : List ℕ) (run : Run) (j n : ℕ) (e : n ≡ members t)
         way-decided a e₃ d e₄ =
             let q : routine (system t) (waits t) (getD (planOf plans ends j) (getD (run .places) j 0) 0)
             (sharedNumber (run .shared)) ≡ decisionOf d = rw (← e₁, ← e₃) (sym e₄) in
-            sym (next-decides t plans ends (runOf run) j its runs (omega arith) ∙ ap gives q)
+            sym (next-routine t plans ends (runOf run) j its runs (omega arith) ∙ ap gives q)
 
         pub way-ready : m < 2 ^ 64 → (d : Decision) → Ready t run j (Stepped.Gives d)
         way-ready fits d = (its, omega arith)
