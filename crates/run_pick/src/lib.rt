@@ -71,7 +71,7 @@ fn is_closed(run: Run) -> bool
 }
 
 // A pick that is refused with k; it changes nothing.
-pub fn refuse(run: Run, k: u64) -> Picked
+fn refuse(run: Run, k: u64) -> Picked
     ensures { λ r. ⌜ PickMeans (refused k) run r ⌝ }
 {
     Picked {
