@@ -10,20 +10,23 @@
  *
  * An answer's numbers are written, in the order stated, to the front of `out`; a number that an
  * answer does not have is written as 0, and the rest of `out` stays as it was. After a refusal all
- * of `out` stays as it was. An `out`, a run or a shared copy shorter than stated is refused with 14
- * before anything else, and so is a run whose change number is above LAWCHECK_LAST_CHANGE.
+ * of `out` stays as it was. An `out` or a run shorter than stated, or a shared copy of another
+ * length, is refused with 14 before anything else, and so is a run whose change number is above
+ * LAWCHECK_LAST_CHANGE.
  *
- * Terms. A fact is a number from 0 to F - 1. A mask is a word in which bit f stands for fact f. A
- * shared copy is the mask of the facts that hold for all; a local copy is what a member's own steps
- * alone have made of the initial mask I. An action answers wait, collision or go at a shared copy.
- * A plan of a member is a list of its actions; it solves if, from I, each precondition holds in the
- * local copy as it comes and the goal holds at the end. A run has one solving plan for each member,
- * and a pick does a member's next step. A run's change number counts the picks done on it, those
- * that go and the one that collides; a ticket is a member and a change number.
+ * Terms. A fact is a number from 0 to F - 1. A mask is two words, low word first: fact f is bit f %
+ * 64 of word f / 64, so where F is at most 64 the high word is 0. Wherever a mask or a copy stands,
+ * in a task, a table, a run or `out`, it takes two words so. A shared copy is the mask of the facts
+ * that hold for all; a local copy is what a member's own steps alone have made of the initial mask
+ * I. An action answers wait, collision or go at a shared copy. A plan of a member is a list of its
+ * actions; it solves if, from I, each precondition holds in the local copy as it comes and the goal
+ * holds at the end. A run has one solving plan for each member, and a pick does a member's next
+ * step. A run's change number counts the picks done on it, those that go and the one that collides;
+ * a ticket is a member and a change number.
  *
- * A task is rows of five words:
- *   row 0           F (1 to 64), members n (1 to 8), actions m (0 to 256), I, 0
- *   rows 1 to n     i, goal mask, 0, 0, 0           for member i from 0
+ * A task is rows of nine words:
+ *   row 0           F (1 to 128), members n (1 to 8), actions m (0 to 256), I, four zeros
+ *   rows 1 to n     i, goal mask, six zeros         for member i from 0
  *   then m rows     member, pre, wait, add, del     for action a from 0; wait is within pre
  *
  * Plans of all members stand in one slice, one after another; `ends` has one number for each
@@ -46,8 +49,8 @@ extern "C" {
 /* Refusals. */
 enum {
     LAWCHECK_LENGTH = 1,       /* the task's length */
-    LAWCHECK_RANGE = 2,        /* F, n, m or the last word of row 0 */
-    LAWCHECK_GOAL_ROW = 3,     /* a goal row's member or its last three words */
+    LAWCHECK_RANGE = 2,        /* F, n, m or the last four words of row 0 */
+    LAWCHECK_GOAL_ROW = 3,     /* a goal row's member or its last six words */
     LAWCHECK_FACT = 4,         /* a bit at or above F */
     LAWCHECK_OWNER = 5,        /* an action's member */
     LAWCHECK_WAIT = 6,         /* wait is not within pre */
@@ -67,22 +70,25 @@ enum {
     LAWCHECK_CHANGES = 20      /* the run's change number is the last one */
 };
 
+/* The most facts of a task; words of a mask and of a task's row. */
+enum { LAWCHECK_FACTS = 128, LAWCHECK_MASK_WORDS = 2, LAWCHECK_ROW_WORDS = 9 };
+
 /* Words of `out`, of a run, and of the reader's word slice; bytes that the writer's texts never
  * exceed. */
 enum {
-    LAWCHECK_STEP_OUT = 2,
+    LAWCHECK_STEP_OUT = 3,
     LAWCHECK_SOLO_REPLAY_OUT = 2,
     LAWCHECK_SOLO_SEARCH_OUT = 3,
-    LAWCHECK_JOINT_REPLAY_OUT = 4,
+    LAWCHECK_JOINT_REPLAY_OUT = 5,
     LAWCHECK_PICK_OUT = 1,
-    LAWCHECK_ASK_OUT = 4,
+    LAWCHECK_ASK_OUT = 5,
     LAWCHECK_COMMIT_OUT = 1,
     LAWCHECK_VERDICT_OUT = 3,
     LAWCHECK_READ_OUT = 1,
     LAWCHECK_PDDL_READ_OUT = 1,
     LAWCHECK_PDDL_WRITE_OUT = 2,
-    LAWCHECK_RUN_WORDS = 11,
-    LAWCHECK_TEXT_WORDS = 1325,
+    LAWCHECK_RUN_WORDS = 12,
+    LAWCHECK_TEXT_WORDS = 2385,
     LAWCHECK_PDDL_BYTES = 1048576
 };
 
@@ -116,12 +122,12 @@ enum {
     LAWCHECK_MISSED = 4
 };
 
-/* Places in a run's words. */
+/* Places in a run's words; the shared copy takes two. */
 enum {
     LAWCHECK_RUN_COLLIDED = 0,
     LAWCHECK_RUN_PLACES = 1,
     LAWCHECK_RUN_SHARED = 9,
-    LAWCHECK_RUN_CHANGE = 10
+    LAWCHECK_RUN_CHANGE = 11
 };
 
 /* The last change number: a run that has it takes no further pick. */
@@ -129,17 +135,18 @@ enum {
 
 /* The task check.
  *
- * Refuses with 1 fewer than five words; 2 F, n, m or the last word of row 0 out of its range; 1 a
- * length other than 5 * (1 + n + m); 4 a bit of I at or above F; then row by row 3 (a goal row's
- * member or its last three words), 4 (a goal bit), 5 (an action's member), 4 (a bit in one of its
- * masks), 6 (wait not within pre). Every function below that takes a task starts with this check.
+ * Refuses with 1 fewer than nine words; 2 F, n, m or the last four words of row 0 out of their
+ * ranges; 1 a length other than 9 * (1 + n + m); 4 a bit of I at or above F; then row by row 3 (a
+ * goal row's member or its last six words), 4 (a goal bit), 5 (an action's member), 4 (a bit in one
+ * of its masks), 6 (wait not within pre). Every function below that takes a task starts with this
+ * check.
  */
 uint64_t lawcheck_task(const uint64_t *task, size_t task_len);
 
-/* What an action answers at a shared copy, a slice of one word.
+/* What an action answers at a shared copy, a slice of two words.
  *
- * out: 0 go, 1 wait, 2 collision; the new shared copy after go.
- * Refuses with 14 where shared_len is not 1 or out_len is below 2; the task check; 7 no such
+ * out: 0 go, 1 wait, 2 collision; the new shared copy after go, in two words.
+ * Refuses with 14 where shared_len is not 2 or out_len is below 3; the task check; 7 no such
  * action; 4 a bit of the shared copy at or above F.
  */
 uint64_t lawcheck_step(const uint64_t *task, size_t task_len, uint16_t action,
@@ -157,11 +164,12 @@ uint64_t lawcheck_solo_replay(const uint64_t *task, size_t task_len, uint8_t mem
 
 /* Every local copy that a member can reach from I, in breadth order, and which of them are live.
  *
- * After an answer the table holds the copies and marks holds 1 for each live one (some steps lead
- * from it to the goal) and 0 for each dead one; unused entries of both are zero.
+ * A row of the table is one copy, so there are table_len / 2 rows, rounded down. After an answer
+ * the table holds the copies and marks holds 1 for each live one (some steps lead from it to the
+ * goal) and 0 for each dead one; unused entries of both are zero, a table's odd last word too.
  * out: the count of copies; 1 where I is live, else 0; the number of marks that are 1.
- * Refuses with 14 where out_len is below 3; the task check; 8 no such member; 14 marks shorter than
- * the table; 9 exactly where the copies exceed the table.
+ * Refuses with 14 where out_len is below 3; the task check; 8 no such member; 14 marks_len below
+ * the number of rows; 9 exactly where the copies exceed the rows.
  */
 uint64_t lawcheck_solo_search(const uint64_t *task, size_t task_len, uint8_t member,
                               uint64_t *table, size_t table_len, uint8_t *marks, size_t marks_len,
@@ -170,8 +178,9 @@ uint64_t lawcheck_solo_search(const uint64_t *task, size_t task_len, uint8_t mem
 /* A list of picks from the start of a run.
  *
  * out: 0 success, 1 collision, 2 deadlock, 3 missed, 4 open; after missed the lowest member whose
- * goal does not hold; the number of picks done, a colliding one not counted; the shared copy.
- * Refuses with 14 where out_len is below 4; the task check; 11 ends not n in number, falling, or
+ * goal does not hold; the number of picks done, a colliding one not counted; the shared copy, in
+ * two words.
+ * Refuses with 14 where out_len is below 5; the task check; 11 ends not n in number, falling, or
  * the last not plans_len; then by member 7 or 10 at its first bad entry, 12 a plan that does not
  * solve; then at the first bad pick 8 no such member, or 13 (no step left, waiting, or already
  * collided).
@@ -184,11 +193,11 @@ uint64_t lawcheck_joint_replay(const uint64_t *task, size_t task_len,
 
 /* One pick on a run that the caller holds.
  *
- * run is eleven words: collided where not 0, eight places (one for each member, in its plan; those
- * of members that the task does not have are not looked at), the shared copy, the change number. A
- * run starts with 0, places 0, I and 0. After go the member's place and the shared copy are moved
- * on; after a collision the first word is 1; after either the change number is one higher. Nothing
- * else of the run changes.
+ * run is twelve words: collided where not 0, eight places (one for each member, in its plan; those
+ * of members that the task does not have are not looked at), the shared copy (two words), the
+ * change number. A run starts with 0, places 0, I and 0. After go the member's place and the shared
+ * copy are moved on; after a collision the first word is 1; after either the change number is one
+ * higher. Nothing else of the run changes.
  *
  * A runner that has to know the answer before it does the pick takes lawcheck_ask, and then
  * lawcheck_commit. A pick in between makes every ticket asked for before it stale.
@@ -199,7 +208,7 @@ uint64_t lawcheck_joint_replay(const uint64_t *task, size_t task_len,
  * from the start by lawcheck_joint_replay: both look at the plans once.
  *
  * out: 0 go, 1 collision.
- * Refuses with 14 where run_len is below 11, the change number above LAWCHECK_LAST_CHANGE, or
+ * Refuses with 14 where run_len is below 12, the change number above LAWCHECK_LAST_CHANGE, or
  * out_len below 1; as lawcheck_joint_replay up to 12; 4 a bit of the shared copy at or above F; 11
  * a place past its plan's end; 8 no such member; 13 (no step left, waiting, or already collided);
  * 20 where the change number is LAWCHECK_LAST_CHANGE.
@@ -218,10 +227,10 @@ uint64_t lawcheck_pick(const uint64_t *task, size_t task_len,
  * waits gets a ticket too, and so does a run that has the last change number; a commit with either
  * is refused.
  *
- * out: 0 go, 1 wait, 2 collision; the new shared copy after go; the ticket's member; the ticket's
- * change number.
- * Refuses with 14 where run_len is below 11, the change number above LAWCHECK_LAST_CHANGE, or
- * out_len below 4; as lawcheck_joint_replay up to 12; 4 a bit of the shared copy at or above F; 11
+ * out: 0 go, 1 wait, 2 collision; the new shared copy after go, in two words; the ticket's member;
+ * the ticket's change number.
+ * Refuses with 14 where run_len is below 12, the change number above LAWCHECK_LAST_CHANGE, or
+ * out_len below 5; as lawcheck_joint_replay up to 12; 4 a bit of the shared copy at or above F; 11
  * a place past its plan's end; 8 no such member; 13 (no step left, or already collided).
  */
 uint64_t lawcheck_ask(const uint64_t *task, size_t task_len,
@@ -247,9 +256,9 @@ uint64_t lawcheck_commit(const uint64_t *task, size_t task_len,
                          uint64_t *run, size_t run_len, uint8_t member, uint32_t change,
                          uint64_t *out, size_t out_len);
 
-/* The start of a run: 0, places 0, I and change number 0, written to run's eleven words.
+/* The start of a run: 0, places 0, I and change number 0, written to run's twelve words.
  *
- * Refuses with 14 where run_len is below 11, whatever the words hold; the task check.
+ * Refuses with 14 where run_len is below 12, whatever the words hold; the task check.
  */
 uint64_t lawcheck_start(const uint64_t *task, size_t task_len, uint64_t *run, size_t run_len);
 
@@ -263,7 +272,7 @@ uint64_t lawcheck_start(const uint64_t *task, size_t task_len, uint64_t *run, si
  * number is LAWCHECK_LAST_CHANGE); the rest of it stays as it was. Of the run afterwards the first
  * word is 1 where it has collided, whatever was there before, else 0, and the change number is
  * higher by the picks that go or collide.
- * Refuses with 14 where run_len is below 11, the change number above LAWCHECK_LAST_CHANGE, or
+ * Refuses with 14 where run_len is below 12, the change number above LAWCHECK_LAST_CHANGE, or
  * answers_len below picks_len; as lawcheck_pick up to 11, a place past its plan's end.
  */
 uint64_t lawcheck_play(const uint64_t *task, size_t task_len,
@@ -274,8 +283,9 @@ uint64_t lawcheck_play(const uint64_t *task, size_t task_len,
 
 /* Whether a law is robust: no choice of solving plans and no order of picks ends in a fault.
  *
- * K = local_len / n rows for each member and C = configurations_len / (n + 1) rows of a
- * configuration (one local copy for each member, then the shared copy), both rounded down.
+ * A copy takes two words, so K = local_len / (2 * n) rows for each member and C =
+ * configurations_len / (2 * (n + 1)) rows of a configuration (one local copy for each member, then
+ * the shared copy), both rounded down.
  *
  * After an answer the local table and the marks hold what lawcheck_solo_search gives, member i's
  * from row i * K; the configuration table holds the configurations in breadth order (none after
@@ -314,13 +324,13 @@ uint64_t lawcheck_verdict(const uint64_t *task, size_t task_len,
                           uint64_t *ends, size_t ends_len, uint8_t *picks, size_t picks_len,
                           uint64_t *out, size_t out_len);
 
-/* Reads a task from text: RFC 4180, five fields a record, no header, no quotes, at most 265
+/* Reads a task from text: RFC 4180, nine fields a record, no header, no quotes, at most 265
  * records. A field is digits without a leading zero, at most 2^64 - 1. Each record ends in CR LF,
  * which the last may lack.
  *
  * After an answer the words hold the task, then zeros.
  * out: the number of records.
- * Refuses with 14 where out_len is below 1 or words_len below 1325; 15 a text not as above; the
+ * Refuses with 14 where out_len is below 1 or words_len below 2385; 15 a text not as above; the
  * task check.
  */
 uint64_t lawcheck_read(const uint8_t *text, size_t text_len, uint64_t *words, size_t words_len,
@@ -346,8 +356,8 @@ uint64_t lawcheck_read(const uint8_t *text, size_t text_len, uint64_t *words, si
  * Refuses with 14 where out_len is below 1; 15 waits not as above; 16 a text with no member or not
  * as above; 17 a name that is unknown (also where a problem's :domain is not the domain before it),
  * a wait's number that is unknown, a predicate or, within one domain, an action named twice, or
- * predicates (in order) or initial facts (as sets) that differ between members; 18 more than 64
- * facts, 8 members or 256 actions; the task check; 14 where words_len is below 5 * (1 + n + m).
+ * predicates (in order) or initial facts (as sets) that differ between members; 18 more than 128
+ * facts, 8 members or 256 actions; the task check; 14 where words_len is below 9 * (1 + n + m).
  * Either 14 leaves the words as they were; every other refusal leaves them zero.
  */
 uint64_t lawcheck_pddl_read(const uint8_t *text, size_t text_len,

@@ -1,7 +1,8 @@
 //! Laws, plans and texts that fill the tables.
 
 use reference::generate::families::{chains_of, counters};
-use reference::generate::{text, Law};
+use reference::generate::{all, text, Law};
+use reference::interface::FACTS;
 
 /// One member with 2^facts local copies, and as many configurations.
 pub fn counter(facts: usize) -> Law {
@@ -12,6 +13,12 @@ pub fn counter(facts: usize) -> Law {
 pub fn repeated(law: Law, actions: usize) -> Law {
     let actions = law.actions.iter().copied().cycle().take(actions).collect();
     Law { actions, ..law }
+}
+
+/// The same law with every fact 64 higher, so that all of them are bits of high words.
+pub fn high(law: Law) -> Law {
+    let places: Vec<usize> = (64..64 + law.facts).collect();
+    law.at(FACTS, &places)
 }
 
 /// Chains of these lengths: their product is the number of configurations.
@@ -54,18 +61,21 @@ pub fn long_plan(steps: usize) -> (Law, Vec<u16>) {
     (counters(1, 1), (0..steps + 1 - steps % 2).map(|step| (step % 2) as u16).collect())
 }
 
-/// A text with this many records, all masks wide: F = 64, n = 8.
-pub fn wide_text(records: usize) -> String {
-    let (members, wide) = (8, u64::MAX);
+/// A text with this many records, and all these facts in all masks: n = 8.
+pub fn wide_text(records: usize, facts: usize) -> String {
+    text::of_words(&wide(records - 9, facts))
+}
+
+/// A task of eight members with so many actions, and all these facts in all masks.
+pub fn wide(actions: usize, facts: usize) -> Vec<u64> {
+    let mask = all(facts);
     let law = Law {
-        facts: 64,
-        initial: wide,
-        goals: vec![wide; members],
-        actions: (0..records - 1 - members)
-            .map(|a| [(a % 8) as u64, wide, wide, wide, wide])
-            .collect(),
+        facts,
+        initial: mask,
+        goals: vec![mask; 8],
+        actions: (0..actions as u128).map(|a| [a % 8, mask, mask, mask, mask]).collect(),
     };
-    text::of_words(&law.words())
+    law.words()
 }
 
 /// Where a law in PDDL is filled up.
@@ -112,16 +122,4 @@ fn pddl_filled(bytes: usize, part: Part, piece: impl Fn(usize) -> String) -> Str
         Part::Initial => with("", &filling, ""),
         Part::Goal => with("", "", &filling),
     }
-}
-
-/// A task whose texts are as long as so many actions can make them.
-pub fn full(actions: usize) -> Vec<u64> {
-    let wide = u64::MAX;
-    let law = Law {
-        facts: 64,
-        initial: wide,
-        goals: vec![wide; 8],
-        actions: (0..actions as u64).map(|a| [a % 8, wide, wide, wide, wide]).collect(),
-    };
-    law.words()
 }

@@ -19,6 +19,7 @@ mod timing;
 
 use laws::Part;
 use reference::generate::Law;
+use reference::interface::{mask_words, FACTS};
 use sides::{Side, Slices};
 use std::time::Duration;
 use timing::{figure, Budget, Times};
@@ -76,11 +77,13 @@ impl Bench {
         for measured in [
             self.solo_search("4096 copies", laws::counter(12)),
             self.verdict("one member, 4096 configurations", laws::counter(12)),
+            self.verdict("the same in high words", laws::high(laws::counter(12))),
             self.verdict("grid 12 x 13 x 13", laws::grid(&[12, 13, 13])),
             self.verdict("grid of eight members", laws::grid(&[3, 3, 3, 2, 2, 2, 2, 2])),
             self.verdict("grid 12 x 13 x 13, a goal missed", laws::grid_with_fault(&[12, 13, 13])),
             self.joint_replay(65_536),
-            self.reader(265),
+            self.reader("wide masks", 265, FACTS / 2),
+            self.reader("wide masks of 128 facts", 265, FACTS),
         ] {
             println!("{} |", measured.line());
         }
@@ -113,7 +116,7 @@ impl Bench {
         grows(steps.map(|steps| self.pick("one pick", Slices::pick, steps)));
         grows(steps.map(|steps| self.pick("one ask", Slices::ask, steps)));
         grows(steps.map(|steps| self.pick("one commit", Slices::commit, steps)));
-        grows([17, 33, 65, 129].map(|records| self.reader(records)));
+        grows([17, 33, 65, 129].map(|records| self.reader("wide masks", records, FACTS / 2)));
 
         growth("Growth with actions");
         let times = [16, 32, 64, 128, 256];
@@ -180,7 +183,8 @@ impl Bench {
     fn step(&self, actions: usize) -> Measured {
         let law = laws::repeated(laws::counter(8), actions);
         let words = law.words();
-        let run = |slices: &mut Slices| slices.step(&words, actions as u16 - 1, law.known());
+        let shared = mask_words(law.known());
+        let run = |slices: &mut Slices| slices.step(&words, actions as u16 - 1, &shared);
         self.measure("step", "one member", actions, run, |_| 1)
     }
 
@@ -259,13 +263,17 @@ impl Bench {
         let short = laws::pddl_text(8 << 10, Part::Effects);
         let waits = [1 << 10, 4 << 10, 16 << 10, 64 << 10].map(|count| "0,0\r\n".repeat(count));
         grows(waits.map(|waits| self.pddl_read("long waits", &short, &waits)));
-        grows([16, 64, 256].map(|actions| {
+        let everywhere = |name, actions, facts| {
             let mut writer = Slices::new(Side::Twin);
-            writer.pddl_write(&laws::full(actions), lawcheck::raw::PDDL_BYTES);
+            writer.pddl_write(&laws::wide(actions, facts), lawcheck::raw::PDDL_BYTES);
             let [text, waits] = writer.texts();
-            self.pddl_read("all facts everywhere", text, waits)
-        }));
-        grows([16, 64, 256].map(|actions| self.pddl_write(actions)));
+            self.pddl_read(name, text, waits)
+        };
+        let (half, whole) = ("all of 64 facts everywhere", "all of 128 facts everywhere");
+        grows([16, 64, 256].map(|actions| everywhere(half, actions, FACTS / 2)));
+        grows([everywhere(whole, 256, FACTS)]);
+        grows([16, 64, 256].map(|actions| self.pddl_write(half, actions, FACTS / 2)));
+        grows([self.pddl_write(whole, 256, FACTS)]);
     }
 
     fn pddl_read(&self, name: &'static str, text: &str, waits: &str) -> Measured {
@@ -276,8 +284,8 @@ impl Bench {
     }
 
     /// Both sides write texts of their own spelling, which read back to one task.
-    fn pddl_write(&self, actions: usize) -> Measured {
-        let task = laws::full(actions);
+    fn pddl_write(&self, law: &'static str, actions: usize, facts: usize) -> Measured {
+        let task = laws::wide(actions, facts);
         let grouped = reference::paper::pddl::grouped(&task);
         let [mut library, mut twin] = [Side::Library, Side::Twin].map(Slices::new);
         let length = lawcheck::raw::PDDL_BYTES;
@@ -290,14 +298,14 @@ impl Bench {
         let times = self
             .budget
             .measure(|| library.pddl_write(&task, length), || twin.pddl_write(&task, length));
-        Measured { operation: "PDDL writer", law: "all facts everywhere", rows, actions, times }
+        Measured { operation: "PDDL writer", law, rows, actions, times }
     }
 
-    fn reader(&self, records: usize) -> Measured {
-        let text = laws::wide_text(records);
+    fn reader(&self, name: &'static str, records: usize, facts: usize) -> Measured {
+        let text = laws::wide_text(records, facts);
         let run = |slices: &mut Slices| slices.read(text.as_bytes());
         let rows = |slices: &Slices| slices.out[0] as usize;
-        self.measure("reader", "wide masks", records - 9, run, rows)
+        self.measure("reader", name, records - 9, run, rows)
     }
 }
 

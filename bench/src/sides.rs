@@ -1,9 +1,11 @@
 //! One operation on slices of its own: each side of a measurement holds one of these.
 
 use reference::fast::Fast;
-use reference::interface::{Interface, Pddl, Ticket};
+use reference::interface::{Interface, Pddl, Ticket, CHANGE, MASK, SHARED};
 
-/// Words of the verdict program's tables.
+/// Copies that the tables hold: local ones of all members, and those of all configurations. These
+/// are twice as many as in the verdict program's tables, and as many as there were in those when a
+/// copy was one word.
 const LOCAL: usize = 4096;
 const CONFIGURATIONS: usize = 8192;
 
@@ -14,7 +16,7 @@ pub enum Side {
     Twin,
 }
 
-/// Slices as the verdict program lends them, and the last return and answer.
+/// Slices for so many copies, and the last return and answer.
 pub struct Slices {
     side: Side,
     local: Vec<u64>,
@@ -29,16 +31,16 @@ pub struct Slices {
     waits: Vec<u8>,
     run: [u64; lawcheck::raw::RUN_WORDS],
     pub returned: u64,
-    pub out: [u64; 4],
+    pub out: [u64; lawcheck::raw::ASK_OUT],
 }
 
 impl Slices {
     pub fn new(side: Side) -> Slices {
         Slices {
             side,
-            local: vec![0; LOCAL],
+            local: vec![0; MASK * LOCAL],
             marks: vec![0; LOCAL],
-            configurations: vec![0; CONFIGURATIONS],
+            configurations: vec![0; MASK * CONFIGURATIONS],
             trail: vec![0; CONFIGURATIONS],
             plans: vec![0; CONFIGURATIONS / 2 + LOCAL],
             ends: vec![0; 8],
@@ -48,7 +50,7 @@ impl Slices {
             waits: Vec::new(),
             run: [0; lawcheck::raw::RUN_WORDS],
             returned: 0,
-            out: [0; 4],
+            out: [0; lawcheck::raw::ASK_OUT],
         }
     }
 
@@ -59,10 +61,10 @@ impl Slices {
         };
     }
 
-    pub fn step(&mut self, task: &[u64], action: u16, shared: u64) {
+    pub fn step(&mut self, task: &[u64], action: u16, shared: &[u64]) {
         self.returned = match self.side {
-            Side::Library => lawcheck::raw::step(task, action, &[shared], &mut self.out),
-            Side::Twin => Fast.step(task, action, &[shared], &mut self.out),
+            Side::Library => lawcheck::raw::step(task, action, shared, &mut self.out),
+            Side::Twin => Fast.step(task, action, shared, &mut self.out),
         };
     }
 
@@ -108,10 +110,15 @@ impl Slices {
         };
     }
 
+    /// Puts the run at its start.
+    fn start(&mut self, task: &[u64]) {
+        self.run = [0; lawcheck::raw::RUN_WORDS];
+        self.run[SHARED..CHANGE].copy_from_slice(&task[3..5]);
+    }
+
     /// One pick of member 0 on a run at its start.
     pub fn pick(&mut self, task: &[u64], plans: &[u16], ends: &[u64]) {
-        self.run = [0; lawcheck::raw::RUN_WORDS];
-        self.run[lawcheck::raw::RUN_SHARED] = task[3];
+        self.start(task);
         let (run, out) = (&mut self.run, &mut self.out);
         self.returned = match self.side {
             Side::Library => lawcheck::raw::pick(task, plans, ends, run, 0, out),
@@ -121,8 +128,7 @@ impl Slices {
 
     /// An ask for member 0 on a run at its start.
     pub fn ask(&mut self, task: &[u64], plans: &[u16], ends: &[u64]) {
-        self.run = [0; lawcheck::raw::RUN_WORDS];
-        self.run[lawcheck::raw::RUN_SHARED] = task[3];
+        self.start(task);
         let (run, out) = (&mut self.run, &mut self.out);
         self.returned = match self.side {
             Side::Library => lawcheck::raw::ask(task, plans, ends, run, 0, out),
@@ -132,8 +138,7 @@ impl Slices {
 
     /// The commit of what member 0 is told there.
     pub fn commit(&mut self, task: &[u64], plans: &[u16], ends: &[u64]) {
-        self.run = [0; lawcheck::raw::RUN_WORDS];
-        self.run[lawcheck::raw::RUN_SHARED] = task[3];
+        self.start(task);
         let (run, out) = (&mut self.run, &mut self.out);
         self.returned = match self.side {
             Side::Library => lawcheck::raw::commit(task, plans, ends, run, 0, 0, out),
@@ -180,13 +185,16 @@ impl Slices {
         reference::paper::pddl::words(text, waits)
     }
 
-    /// The configurations that a verdict listed, in rows of this many words; after a fault those
+    /// The configurations that a verdict listed, in rows of this many copies; after a fault those
     /// that are not all zeros, which no law here has.
     pub fn configurations(&self, width: usize) -> usize {
         if self.out[0] == 0 {
             return self.out[2] as usize;
         }
-        self.configurations.chunks(width).filter(|row| row.iter().any(|&word| word != 0)).count()
+        self.configurations
+            .chunks(MASK * width)
+            .filter(|row| row.iter().any(|&word| word != 0))
+            .count()
     }
 
     /// Whether both hold one answer: the return, the numbers, every table, the conflict and the

@@ -7,23 +7,31 @@
 #include <stdio.h>
 #include <string.h>
 
-enum { MEMBERS = 2, ACTIONS = 4, WORDS = 5 * (1 + MEMBERS + ACTIONS), MOST_PICKS = 32 };
+enum { ROW = LAWCHECK_ROW_WORDS, MASK = LAWCHECK_MASK_WORDS };
+enum { MEMBERS = 2, ACTIONS = 4, WORDS = ROW * (1 + MEMBERS + ACTIONS), MOST_PICKS = 32 };
 
 /* L1 of the scope paper: two members share one token, and both wait for it. */
 static const uint64_t LAW[WORDS] = {
-    5, 2, 4, 1, 0,
-    0, 5, 0, 0, 0,
-    1, 17, 0, 0, 0,
-    0, 1, 1, 2, 1,
-    0, 2, 0, 5, 2,
-    1, 1, 1, 8, 1,
-    1, 8, 0, 17, 8,
+    5, 2, 4, 1, 0, 0, 0, 0, 0,
+    0, 5, 0, 0, 0, 0, 0, 0, 0,
+    1, 17, 0, 0, 0, 0, 0, 0, 0,
+    0, 1, 0, 1, 0, 2, 0, 1, 0,
+    0, 2, 0, 0, 0, 5, 0, 2, 0,
+    1, 1, 0, 1, 0, 8, 0, 1, 0,
+    1, 8, 0, 0, 0, 17, 0, 8, 0,
 };
 
 static const char LAW_TEXT[] =
-    "5,2,4,1,0\r\n0,5,0,0,0\r\n1,17,0,0,0\r\n0,1,1,2,1\r\n0,2,0,5,2\r\n1,1,1,8,1\r\n1,8,0,17,8\r\n";
+    "5,2,4,1,0,0,0,0,0\r\n0,5,0,0,0,0,0,0,0\r\n1,17,0,0,0,0,0,0,0\r\n0,1,0,1,0,2,0,1,0\r\n"
+    "0,2,0,0,0,5,0,2,0\r\n1,1,0,1,0,8,0,1,0\r\n1,8,0,0,0,17,0,8,0\r\n";
 
 static unsigned passed, failed;
+
+/* Whether two words hold this mask. */
+static bool is_mask(const uint64_t *words, uint64_t low, uint64_t high)
+{
+    return words[0] == low && words[1] == high;
+}
 
 static void expect(bool holds, const char *what)
 {
@@ -51,7 +59,7 @@ struct runner {
 
 /* What a member would do, and the ticket for it. */
 struct asked {
-    uint64_t answer, shared;
+    uint64_t answer, shared[LAWCHECK_MASK_WORDS];
     uint8_t member;
     uint32_t change;
 };
@@ -67,7 +75,7 @@ static void start(struct runner *runner, const uint64_t *law, size_t law_len, co
     runner->ends = ends;
     runner->run[LAWCHECK_RUN_CHANGE] = 99;
     expect(lawcheck_start(law, law_len, runner->run, LAWCHECK_RUN_WORDS) == 0 &&
-               runner->run[LAWCHECK_RUN_SHARED] == law[3] &&
+               is_mask(runner->run + LAWCHECK_RUN_SHARED, law[3], law[4]) &&
                runner->run[LAWCHECK_RUN_CHANGE] == 0,
            "a run starts at the initial copy with nothing done");
 }
@@ -96,16 +104,16 @@ static uint64_t pick(struct runner *runner, uint8_t member, uint64_t *answer)
 /* Asks what a member would do: the refusal's number, or 0 with the answer and its ticket. */
 static uint64_t ask(const struct runner *runner, uint8_t member, struct asked *asked)
 {
-    uint64_t before[LAWCHECK_RUN_WORDS], out[LAWCHECK_ASK_OUT] = {99, 99, 99, 99};
+    uint64_t before[LAWCHECK_RUN_WORDS], out[LAWCHECK_ASK_OUT] = {99, 99, 99, 99, 99};
     memcpy(before, runner->run, sizeof before);
     uint64_t refusal =
         lawcheck_ask(runner->law, runner->law_len, runner->plans, runner->plans_len, runner->ends,
                      MEMBERS, runner->run, LAWCHECK_RUN_WORDS, member, out, LAWCHECK_ASK_OUT);
     expect(memcmp(before, runner->run, sizeof before) == 0, "an ask leaves the run as it was");
     if (refusal == 0) {
-        expect(out[2] == member && out[3] == runner->run[LAWCHECK_RUN_CHANGE],
+        expect(out[3] == member && out[4] == runner->run[LAWCHECK_RUN_CHANGE],
                "a ticket is the member and the change number");
-        *asked = (struct asked){out[0], out[1], (uint8_t)out[2], (uint32_t)out[3]};
+        *asked = (struct asked){out[0], {out[1], out[2]}, (uint8_t)out[3], (uint32_t)out[4]};
     }
     return refusal;
 }
@@ -125,7 +133,8 @@ static uint64_t commit(struct runner *runner, const struct asked *asked)
         return refusal;
     }
     if (asked->answer == LAWCHECK_ASK_GO) {
-        expect(out[0] == LAWCHECK_PICK_GO && runner->run[LAWCHECK_RUN_SHARED] == asked->shared,
+        expect(out[0] == LAWCHECK_PICK_GO && is_mask(runner->run + LAWCHECK_RUN_SHARED,
+                                                     asked->shared[0], asked->shared[1]),
                "it goes to the shared copy that was told");
     } else {
         expect(out[0] == LAWCHECK_PICK_COLLISION && asked->answer == LAWCHECK_ASK_COLLISION,
@@ -201,15 +210,16 @@ static uint64_t replay(const struct runner *runner, uint64_t out[LAWCHECK_JOINT_
 
 /* The verdict on a law, its conflict left in the last three slices. */
 enum { COPIES = 16, CONFIGURATIONS = 64 };
-static uint64_t local[MEMBERS * COPIES], configurations[(MEMBERS + 1) * CONFIGURATIONS];
+static uint64_t local[MASK * MEMBERS * COPIES];
+static uint64_t configurations[MASK * (MEMBERS + 1) * CONFIGURATIONS];
 static uint64_t trail[2 * CONFIGURATIONS], conflict_ends[MEMBERS];
 static uint8_t marks[MEMBERS * COPIES], conflict_picks[CONFIGURATIONS];
 static uint16_t conflict_plans[CONFIGURATIONS + MEMBERS * COPIES];
 
-static uint64_t verdict(const uint64_t *law, uint64_t out[LAWCHECK_VERDICT_OUT])
+static uint64_t verdict(const uint64_t *law, size_t law_len, uint64_t out[LAWCHECK_VERDICT_OUT])
 {
-    return lawcheck_verdict(law, WORDS, local, MEMBERS * COPIES, marks, MEMBERS * COPIES,
-                            configurations, (MEMBERS + 1) * CONFIGURATIONS, trail,
+    return lawcheck_verdict(law, law_len, local, MASK * MEMBERS * COPIES, marks, MEMBERS * COPIES,
+                            configurations, MASK * (MEMBERS + 1) * CONFIGURATIONS, trail,
                             2 * CONFIGURATIONS, conflict_plans, CONFIGURATIONS + MEMBERS * COPIES,
                             conflict_ends, MEMBERS, conflict_picks, CONFIGURATIONS, out,
                             LAWCHECK_VERDICT_OUT);
@@ -235,39 +245,53 @@ static void read_the_law(void)
 static void single_operations(void)
 {
     static const uint16_t plan[] = {0, 1};
-    const uint64_t shared = 1;
+    static const uint64_t shared[] = {1, 0};
     /* L8 of the scope paper: member 0's one step loses its goal for good. */
-    static const uint64_t losing[] = {2, 2, 2, 1, 0, 0, 1, 0, 0, 0, 1, 1, 0, 0, 0,
-                                      0, 0, 0, 2, 1, 1, 1, 0, 1, 0};
-    uint64_t table[4], out[2] = {99, 99}, found[LAWCHECK_SOLO_SEARCH_OUT] = {99, 99, 99};
+    static const uint64_t losing[] = {
+        2, 2, 2, 1, 0, 0, 0, 0, 0,
+        0, 1, 0, 0, 0, 0, 0, 0, 0,
+        1, 1, 0, 0, 0, 0, 0, 0, 0,
+        0, 0, 0, 0, 0, 2, 0, 1, 0,
+        1, 1, 0, 0, 0, 1, 0, 0, 0,
+    };
+    uint64_t table[9], out[3] = {99, 99, 99}, found[LAWCHECK_SOLO_SEARCH_OUT] = {99, 99, 99};
     uint8_t live[4];
     expect(lawcheck_task(LAW, WORDS) == 0, "the law is accepted");
     expect(lawcheck_task(LAW, WORDS - 1) == LAWCHECK_LENGTH, "a cut law is refused");
-    expect(lawcheck_step(LAW, WORDS, 0, &shared, 1, out, 2) == 0 && out[0] == LAWCHECK_STEP_GO &&
-               out[1] == 2,
+    expect(lawcheck_step(LAW, WORDS, 0, shared, 2, out, 3) == 0 && out[0] == LAWCHECK_STEP_GO &&
+               is_mask(out + 1, 2, 0),
            "the token is taken");
-    expect(lawcheck_step(LAW, WORDS, 1, &shared, 1, out, 2) == 0 &&
-               out[0] == LAWCHECK_STEP_COLLISION && out[1] == 0,
+    expect(lawcheck_step(LAW, WORDS, 1, shared, 2, out, 3) == 0 &&
+               out[0] == LAWCHECK_STEP_COLLISION && is_mask(out + 1, 0, 0),
            "work without the token collides");
-    expect(lawcheck_step(LAW, WORDS, 0, &shared, 0, out, 2) == LAWCHECK_SHORT,
-           "a step needs a shared copy");
+    out[0] = 99;
+    expect(lawcheck_step(LAW, WORDS, 0, shared, 1, out, 3) == LAWCHECK_SHORT &&
+               lawcheck_step(LAW, WORDS, 0, shared, 0, out, 3) == LAWCHECK_SHORT,
+           "a shared copy is two words");
+    expect(lawcheck_step(LAW, WORDS, 0, shared, 2, out, 2) == LAWCHECK_SHORT && out[0] == 99,
+           "a step tells three numbers");
     expect(lawcheck_solo_replay(LAW, WORDS, 0, plan, 2, out, 2) == 0 && out[0] == LAWCHECK_SOLVES,
            "member 0's plan solves");
     expect(lawcheck_solo_replay(LAW, WORDS, 0, plan, 1, out, 2) == 0 &&
                out[0] == LAWCHECK_GOAL_SHORT,
            "half of it is short");
-    expect(lawcheck_solo_search(LAW, WORDS, 0, table, 4, live, 4, found, 2) == LAWCHECK_SHORT &&
+    expect(lawcheck_solo_search(LAW, WORDS, 0, table, 8, live, 4, found, 2) == LAWCHECK_SHORT &&
                found[0] == 99,
            "a search tells three numbers");
-    expect(lawcheck_solo_search(LAW, WORDS, 0, table, 4, live, 4, found, 3) == 0 && found[0] == 4 &&
+    table[8] = 99;
+    expect(lawcheck_solo_search(LAW, WORDS, 0, table, 9, live, 4, found, 3) == 0 && found[0] == 4 &&
                found[1] == 1 && found[2] == 4,
            "member 0 has four copies and a plan, and all four are live");
-    expect(lawcheck_solo_search(losing, 25, 0, table, 4, live, 4, found, 3) == 0 && found[0] == 2 &&
+    expect(is_mask(table, 1, 0) && is_mask(table + 2, 2, 0) && is_mask(table + 4, 5, 0) &&
+               is_mask(table + 6, 6, 0) && table[8] == 0,
+           "each copy is two words, and the odd word is zero");
+    expect(lawcheck_solo_search(losing, 5 * ROW, 0, table, 8, live, 4, found, 3) == 0 &&
+               found[0] == 2 &&
                found[1] == 1 && found[2] == 1 && live[0] == 1 && live[1] == 0,
            "one of two copies is live");
-    expect(lawcheck_solo_search(LAW, WORDS, 0, table, 3, live, 3, found, 3) == LAWCHECK_FULL &&
+    expect(lawcheck_solo_search(LAW, WORDS, 0, table, 7, live, 3, found, 3) == LAWCHECK_FULL &&
                table[0] == 0 && found[2] == 1,
-           "three rows are too few");
+           "three rows and an odd word are too few");
 }
 
 /* A robust law: any order of picks ends in success. */
@@ -278,51 +302,59 @@ static void run_to_success(void)
     uint64_t out[LAWCHECK_JOINT_REPLAY_OUT], answer;
     struct runner runner;
     struct asked first, second;
-    expect(verdict(LAW, out) == 0 && out[0] == LAWCHECK_ROBUST && out[2] == 12,
+    expect(verdict(LAW, WORDS, out) == 0 && out[0] == LAWCHECK_ROBUST && out[2] == 12,
            "the law is robust with 12 configurations");
     start(&runner, LAW, WORDS, plans, 4, ends);
-    expect(ask(&runner, 0, &second) == 0 && second.answer == LAWCHECK_ASK_GO && second.shared == 2,
+    expect(ask(&runner, 0, &second) == 0 && second.answer == LAWCHECK_ASK_GO &&
+               is_mask(second.shared, 2, 0),
            "member 0 would go");
-    expect(ask(&runner, 1, &first) == 0 && first.answer == LAWCHECK_ASK_GO && first.shared == 8,
+    expect(ask(&runner, 1, &first) == 0 && first.answer == LAWCHECK_ASK_GO &&
+               is_mask(first.shared, 8, 0),
            "member 1 would go");
     expect(commit(&runner, &first) == 0, "member 1 goes first");
-    expect(runner.run[LAWCHECK_RUN_PLACES + 1] == 1 && runner.run[LAWCHECK_RUN_SHARED] == 8 &&
+    expect(runner.run[LAWCHECK_RUN_PLACES + 1] == 1 &&
+               is_mask(runner.run + LAWCHECK_RUN_SHARED, 8, 0) &&
                runner.run[LAWCHECK_RUN_CHANGE] == 1,
            "the run moves on");
     expect(commit(&runner, &second) == LAWCHECK_STALE, "what member 0 was told is stale");
     expect(commit(&runner, &first) == LAWCHECK_STALE, "a ticket is good for one commit");
     expect(ask(&runner, 0, &second) == 0 && second.answer == LAWCHECK_ASK_WAIT &&
-               second.shared == 0 && second.change == 1,
+               is_mask(second.shared, 0, 0) && second.change == 1,
            "member 0 would wait now, and has a ticket");
     expect(commit(&runner, &second) == LAWCHECK_PICK, "what waits is not committed");
     expect(pick(&runner, 0, &answer) == LAWCHECK_PICK, "nor picked");
     expect(pick(&runner, MEMBERS, &answer) == LAWCHECK_MEMBER, "there is no third member");
     expect(ask(&runner, MEMBERS, &first) == LAWCHECK_MEMBER, "it cannot be asked");
-    first = (struct asked){LAWCHECK_ASK_GO, 0, MEMBERS, 7};
+    first = (struct asked){LAWCHECK_ASK_GO, {0, 0}, MEMBERS, 7};
     expect(commit(&runner, &first) == LAWCHECK_MEMBER, "nor committed, by a stale ticket either");
     expect(finish(&runner), "the run finishes");
     expect(runner.run[LAWCHECK_RUN_CHANGE] == 4, "four picks were done");
     expect(ask(&runner, 0, &first) == LAWCHECK_PICK, "no step is left");
     expect(replay(&runner, out) == 0 && out[0] == LAWCHECK_RUN_SUCCESS && out[2] == 4 &&
-               out[3] == runner.run[LAWCHECK_RUN_SHARED],
+               is_mask(runner.run + LAWCHECK_RUN_SHARED, out[3], out[4]),
            "the replay is a success with the run's shared copy");
     expect(lawcheck_pick(LAW, WORDS, plans, 4, ends, MEMBERS, runner.run, LAWCHECK_RUN_WORDS - 1, 0,
                          out, 1) == LAWCHECK_SHORT,
-           "a run has eleven words");
+           "a run has twelve words");
 }
 
 /* Members whose steps have nothing to do with each other: what one is told becomes stale by the
  * other's commit, and machines are refused. */
 static void run_side_by_side(void)
 {
-    static const uint64_t law[] = {2, 2, 2, 0, 0, 0, 1, 0, 0, 0, 1, 2, 0, 0, 0,
-                                   0, 0, 0, 1, 0, 1, 0, 0, 2, 0};
+    static const uint64_t law[] = {
+        2, 2, 2, 0, 0, 0, 0, 0, 0,
+        0, 1, 0, 0, 0, 0, 0, 0, 0,
+        1, 2, 0, 0, 0, 0, 0, 0, 0,
+        0, 0, 0, 0, 0, 1, 0, 0, 0,
+        1, 0, 0, 0, 0, 2, 0, 0, 0,
+    };
     static const uint16_t plans[] = {0, 0, 0, 1, 1, 1};
     static const uint64_t ends[MEMBERS] = {3, 6};
     uint64_t out[LAWCHECK_JOINT_REPLAY_OUT], answer;
     struct runner runner;
     struct asked asked;
-    start(&runner, law, 25, plans, 6, ends);
+    start(&runner, law, 5 * ROW, plans, 6, ends);
     expect(ask(&runner, 0, &asked) == 0 && pick(&runner, 1, &answer) == 0 &&
                commit(&runner, &asked) == LAWCHECK_STALE,
            "a pick makes a ticket stale");
@@ -343,9 +375,9 @@ static void run_to_collision(void)
     struct asked asked;
     memcpy(law, LAW, sizeof law);
     for (int action = 0; action < ACTIONS; action++) {
-        law[5 * (1 + MEMBERS + action) + 2] = 0;
+        law[ROW * (1 + MEMBERS + action) + 3] = 0;
     }
-    expect(verdict(law, out) == 0 && out[0] == LAWCHECK_COLLISION, "the law may collide");
+    expect(verdict(law, WORDS, out) == 0 && out[0] == LAWCHECK_COLLISION, "the law may collide");
     uint64_t done = out[2];
     expect(lawcheck_joint_replay(law, WORDS, conflict_plans, conflict_ends[MEMBERS - 1],
                                  conflict_ends, MEMBERS, conflict_picks, done + 1, out,
@@ -355,11 +387,11 @@ static void run_to_collision(void)
     start(&runner, law, WORDS, plans, 4, ends);
     expect(pick(&runner, 0, &answer) == 0 && answer == LAWCHECK_PICK_GO, "member 0 goes");
     expect(ask(&runner, 1, &asked) == 0 && asked.answer == LAWCHECK_ASK_COLLISION &&
-               asked.shared == 0,
+               is_mask(asked.shared, 0, 0),
            "member 1 would collide");
     expect(commit(&runner, &asked) == 0, "member 1 collides");
     expect(runner.run[LAWCHECK_RUN_COLLIDED] == 1 && runner.run[LAWCHECK_RUN_PLACES + 1] == 0 &&
-               runner.run[LAWCHECK_RUN_SHARED] == 2,
+               is_mask(runner.run + LAWCHECK_RUN_SHARED, 2, 0),
            "a collision changes neither copy nor place");
     expect(runner.run[LAWCHECK_RUN_CHANGE] == 2, "but it counts");
     expect(pick(&runner, 0, &answer) == LAWCHECK_PICK, "the run is closed");
@@ -377,9 +409,9 @@ static void run_to_deadlock(void)
     struct runner runner;
     struct asked asked;
     memcpy(law, LAW, sizeof law);
-    law[5 + 1] = 4;
-    law[10 + 1] = 16;
-    expect(verdict(law, out) == 0 && out[0] == LAWCHECK_DEADLOCK, "the law may deadlock");
+    law[ROW + 1] = 4;
+    law[2 * ROW + 1] = 16;
+    expect(verdict(law, WORDS, out) == 0 && out[0] == LAWCHECK_DEADLOCK, "the law may deadlock");
     start(&runner, law, WORDS, plans, 5, ends);
     for (int count = 0; count < 3; count++) {
         expect(ask(&runner, 0, &asked) == 0 && commit(&runner, &asked) == 0, "member 0 goes on");
@@ -396,14 +428,15 @@ static void run_to_the_last_change(void)
     static const uint16_t plans[] = {0, 1, 2, 3};
     static const uint64_t ends[MEMBERS] = {2, 4};
     static const uint8_t picks[] = {0, 1, MEMBERS, 0};
-    uint64_t answers[4], out[LAWCHECK_ASK_OUT] = {99, 99, 99, 99}, answer;
+    uint64_t answers[4], out[LAWCHECK_ASK_OUT] = {99, 99, 99, 99, 99}, answer;
     struct runner runner;
     struct asked asked;
     start(&runner, LAW, WORDS, plans, 4, ends);
     runner.run[LAWCHECK_RUN_CHANGE] = LAWCHECK_LAST_CHANGE - 1;
     expect(ask(&runner, 0, &asked) == 0 && commit(&runner, &asked) == 0, "one change is left");
     expect(runner.run[LAWCHECK_RUN_CHANGE] == LAWCHECK_LAST_CHANGE, "then none is");
-    expect(ask(&runner, 0, &asked) == 0 && asked.answer == LAWCHECK_ASK_GO && asked.shared == 5 &&
+    expect(ask(&runner, 0, &asked) == 0 && asked.answer == LAWCHECK_ASK_GO &&
+               is_mask(asked.shared, 5, 0) &&
                asked.change == LAWCHECK_LAST_CHANGE,
            "member 0 is told that it would go");
     expect(commit(&runner, &asked) == LAWCHECK_CHANGES, "it does not");
@@ -417,7 +450,7 @@ static void run_to_the_last_change(void)
     expect(lawcheck_ask(LAW, WORDS, plans, 4, ends, MEMBERS, runner.run, LAWCHECK_RUN_WORDS, 0, out,
                         LAWCHECK_ASK_OUT - 1) == LAWCHECK_SHORT &&
                out[0] == 99,
-           "an ask tells four numbers");
+           "an ask tells five numbers");
     runner.run[LAWCHECK_RUN_CHANGE]++;
     expect(ask(&runner, 0, &asked) == LAWCHECK_SHORT && pick(&runner, 0, &answer) == LAWCHECK_SHORT,
            "no run has a larger number");
@@ -429,7 +462,44 @@ static void run_to_the_last_change(void)
     expect(lawcheck_start(LAW, WORDS, runner.run, LAWCHECK_RUN_WORDS - 1) == LAWCHECK_SHORT &&
                lawcheck_start(LAW, WORDS, runner.run, LAWCHECK_RUN_WORDS) == 0 &&
                runner.run[LAWCHECK_RUN_CHANGE] == 0,
-           "a start needs eleven words, whatever they hold");
+           "a start needs twelve words, whatever they hold");
+}
+
+/* A law of 128 facts in which two members take turns by facts of the high word: what the low words
+ * say is the same throughout. */
+static void run_in_the_high_word(void)
+{
+    static const uint64_t last = UINT64_C(1) << 63;
+    const uint64_t law[] = {
+        128, 2, 2, 1, 1, 0, 0, 0, 0,
+        0, 0, last, 0, 0, 0, 0, 0, 0,
+        1, 0, last, 0, 0, 0, 0, 0, 0,
+        0, 1, 1, 0, 1, 0, last, 0, 1,
+        1, 1, 1, 0, 1, 0, last, 0, 0,
+    };
+    static const uint16_t plans[] = {0, 1};
+    static const uint64_t ends[MEMBERS] = {1, 2};
+    uint64_t out[LAWCHECK_JOINT_REPLAY_OUT], answer;
+    struct runner runner;
+    struct asked asked;
+    expect(verdict(law, 5 * ROW, out) == 0 && out[0] == LAWCHECK_DEADLOCK && out[2] == 1,
+           "the law may deadlock for want of fact 64");
+    expect(is_mask(local, 1, 1) && is_mask(local + 2, 1, last), "two copies differ in high words");
+    start(&runner, law, 5 * ROW, plans, 2, ends);
+    expect(ask(&runner, 1, &asked) == 0 && asked.answer == LAWCHECK_ASK_GO &&
+               is_mask(asked.shared, 1, last | 1) && commit(&runner, &asked) == 0,
+           "member 1 goes by fact 64");
+    expect(pick(&runner, 0, &answer) == 0 && answer == LAWCHECK_PICK_GO, "so does member 0");
+    expect(replay(&runner, out) == 0 && out[0] == LAWCHECK_RUN_SUCCESS && out[2] == 2 &&
+               is_mask(out + 3, 1, last),
+           "in this order both have fact 127");
+    start(&runner, law, 5 * ROW, plans, 2, ends);
+    expect(pick(&runner, 0, &answer) == 0 && ask(&runner, 1, &asked) == 0 &&
+               asked.answer == LAWCHECK_ASK_WAIT,
+           "in the other one member 1 waits");
+    runner.run[LAWCHECK_RUN_SHARED + 1] |= 1;
+    expect(ask(&runner, 1, &asked) == 0 && asked.answer == LAWCHECK_ASK_GO,
+           "until fact 64 is there again");
 }
 
 int main(void)
@@ -441,6 +511,7 @@ int main(void)
     run_to_collision();
     run_to_deadlock();
     run_to_the_last_change();
+    run_in_the_high_word();
     printf("%u passed, %u failed\n", passed, failed);
     return failed == 0 ? 0 : 1;
 }

@@ -1,8 +1,9 @@
 //! A safe wrapper of the law checker's C interface, which `include/lawcheck.h` documents.
 //!
 //! Each function here has one of the header's functions under it: an answer is an enum or a struct,
-//! a refusal is a [`Refusal`]. [`raw`] has the same functions with the header's numbers and slices,
-//! and its constants.
+//! a refusal is a [`Refusal`], a shared copy is a [`Mask`]. Tasks and tables hold the header's
+//! words; [`mask`] and [`mask_words`] change between a mask and its two words. [`raw`] has the same
+//! functions with the header's numbers and slices, and its constants.
 #![deny(unsafe_code)]
 
 #[allow(unsafe_code)]
@@ -39,8 +40,8 @@ macro_rules! refusals {
 
 refusals! {
     Length = LENGTH: "the task's length",
-    Range = RANGE: "F, n, m or the last word of row 0",
-    GoalRow = GOAL_ROW: "a goal row's member or its last three words",
+    Range = RANGE: "F, n, m or the last four words of row 0",
+    GoalRow = GOAL_ROW: "a goal row's member or its last six words",
     Fact = FACT: "a bit at or above F",
     Owner = OWNER: "an action's member",
     Wait = WAIT: "wait is not within pre",
@@ -93,6 +94,20 @@ fn unknown(number: u64) -> ! {
     unreachable!("the library gives the header's answers, not {number}")
 }
 
+/// A set of facts: bit f stands for fact f. A shared copy is one.
+pub type Mask = u128;
+
+/// The mask of two words, low word first.
+pub fn mask(words: [u64; raw::MASK_WORDS]) -> Mask {
+    let [low, high] = words.map(Mask::from);
+    low | high << u64::BITS
+}
+
+/// The words of a mask, low word first.
+pub fn mask_words(mask: Mask) -> [u64; raw::MASK_WORDS] {
+    [mask as u64, (mask >> u64::BITS) as u64]
+}
+
 /// The task check.
 pub fn check(task: &[u64]) -> Result<(), Refusal> {
     answered(raw::task(task))
@@ -102,17 +117,18 @@ pub fn check(task: &[u64]) -> Result<(), Refusal> {
 #[derive(Clone, Copy, Debug, PartialEq, Eq)]
 pub enum Step {
     /// It goes; the new shared copy.
-    Go(u64),
+    Go(Mask),
     Wait,
     Collision,
 }
 
 /// An action at a shared copy.
-pub fn step(task: &[u64], action: u16, shared: u64) -> Result<Step, Refusal> {
+pub fn step(task: &[u64], action: u16, shared: Mask) -> Result<Step, Refusal> {
     let mut out = [0; raw::STEP_OUT];
-    answered(raw::step(task, action, &[shared], &mut out))?;
-    Ok(match out[0] {
-        raw::STEP_GO => Step::Go(out[1]),
+    answered(raw::step(task, action, &mask_words(shared), &mut out))?;
+    let [kind, new @ ..] = out;
+    Ok(match kind {
+        raw::STEP_GO => Step::Go(mask(new)),
         raw::STEP_WAIT => Step::Wait,
         raw::STEP_COLLISION => Step::Collision,
         number => unknown(number),
@@ -152,7 +168,8 @@ pub struct SoloSearch {
     pub marked: u64,
 }
 
-/// A member's reachable local copies, in breadth order, and a mark 1 for each live one.
+/// A member's reachable local copies, in breadth order, and a mark 1 for each live one. A copy is
+/// two words of the table, so a table takes half as many copies as it has words.
 pub fn solo_search(
     task: &[u64],
     member: u8,
@@ -182,7 +199,7 @@ pub struct Replay {
     pub outcome: Outcome,
     /// Picks done, a colliding one not counted.
     pub picks: u64,
-    pub shared: u64,
+    pub shared: Mask,
 }
 
 /// A list of picks from the start of a run.
@@ -194,15 +211,16 @@ pub fn joint_replay(
 ) -> Result<Replay, Refusal> {
     let mut out = [0; raw::JOINT_REPLAY_OUT];
     answered(raw::joint_replay(task, plans, ends, picks, &mut out))?;
-    let outcome = match out[0] {
+    let [kind, member, picks, shared @ ..] = out;
+    let outcome = match kind {
         raw::RUN_SUCCESS => Outcome::Success,
         raw::RUN_COLLISION => Outcome::Collision,
         raw::RUN_DEADLOCK => Outcome::Deadlock,
-        raw::RUN_MISSED => Outcome::Missed(out[1] as u8),
+        raw::RUN_MISSED => Outcome::Missed(member as u8),
         raw::RUN_OPEN => Outcome::Open,
         number => unknown(number),
     };
-    Ok(Replay { outcome, picks: out[2], shared: out[3] })
+    Ok(Replay { outcome, picks, shared: mask(shared) })
 }
 
 /// A run that the caller holds: whether it has collided, each member's place in its plan, the
@@ -246,8 +264,8 @@ impl Run {
         &self.words[raw::RUN_PLACES..raw::RUN_SHARED]
     }
 
-    pub fn shared(&self) -> u64 {
-        self.words[raw::RUN_SHARED]
+    pub fn shared(&self) -> Mask {
+        mask([self.words[raw::RUN_SHARED], self.words[raw::RUN_SHARED + 1]])
     }
 
     /// The picks done, a colliding one too.
@@ -280,13 +298,14 @@ impl Run {
     ) -> Result<Asked, Refusal> {
         let mut out = [0; raw::ASK_OUT];
         answered(raw::ask(task, plans, ends, &self.words, member, &mut out))?;
-        let step = match out[0] {
-            raw::ASK_GO => Step::Go(out[1]),
+        let [kind, low, high, member, change] = out;
+        let step = match kind {
+            raw::ASK_GO => Step::Go(mask([low, high])),
             raw::ASK_WAIT => Step::Wait,
             raw::ASK_COLLISION => Step::Collision,
             number => unknown(number),
         };
-        Ok(Asked { step, ticket: Ticket { member: out[2] as u8, change: out[3] as u32 } })
+        Ok(Asked { step, ticket: Ticket { member: member as u8, change: change as u32 } })
     }
 
     /// Does the pick that a ticket is for; its answer is what [`Run::ask`] gives on this run. A
@@ -400,9 +419,9 @@ impl Room {
     /// configurations.
     pub fn new(members: usize, copies: usize, configurations: usize) -> Room {
         Room {
-            local: vec![0; members * copies],
+            local: vec![0; raw::MASK_WORDS * members * copies],
             marks: vec![0; members * copies],
-            configurations: vec![0; (members + 1) * configurations],
+            configurations: vec![0; raw::MASK_WORDS * (members + 1) * configurations],
             trail: vec![0; 2 * configurations],
             plans: vec![0; configurations + members * copies],
             ends: vec![0; members],
@@ -455,7 +474,7 @@ pub fn read(text: &[u8]) -> Result<Vec<u64>, Refusal> {
     let mut words = vec![0; raw::TEXT_WORDS];
     let mut out = [0; raw::READ_OUT];
     answered(raw::read(text, &mut words, &mut out))?;
-    words.truncate(5 * out[0] as usize);
+    words.truncate(raw::ROW_WORDS * out[0] as usize);
     Ok(words)
 }
 

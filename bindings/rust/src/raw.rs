@@ -1,6 +1,6 @@
 //! The header's functions and constants as they are. A slice passes as pointer and length; each
 //! function gives a refusal's number, or 0 for an answer, whose numbers stand at the front of
-//! `out`.
+//! `out`. Masks and copies take two words there, low word first.
 
 use crate::foreign::*;
 
@@ -18,9 +18,10 @@ constants! {
     u64: LENGTH = 1, RANGE = 2, GOAL_ROW = 3, FACT = 4, OWNER = 5, WAIT = 6, ACTION = 7, MEMBER = 8,
         FULL = 9, OTHERS = 10, ENDS = 11, NO_SOLUTION = 12, PICK = 13, SHORT = 14, TEXT = 15,
         PDDL = 16, NAME = 17, MANY = 18, STALE = 19, CHANGES = 20;
-    usize: STEP_OUT = 2, SOLO_REPLAY_OUT = 2, SOLO_SEARCH_OUT = 3, JOINT_REPLAY_OUT = 4,
-        PICK_OUT = 1, ASK_OUT = 4, COMMIT_OUT = 1, VERDICT_OUT = 3, READ_OUT = 1,
-        PDDL_READ_OUT = 1, PDDL_WRITE_OUT = 2, RUN_WORDS = 11, TEXT_WORDS = 1325,
+    usize: FACTS = 128, MASK_WORDS = 2, ROW_WORDS = 9;
+    usize: STEP_OUT = 3, SOLO_REPLAY_OUT = 2, SOLO_SEARCH_OUT = 3, JOINT_REPLAY_OUT = 5,
+        PICK_OUT = 1, ASK_OUT = 5, COMMIT_OUT = 1, VERDICT_OUT = 3, READ_OUT = 1,
+        PDDL_READ_OUT = 1, PDDL_WRITE_OUT = 2, RUN_WORDS = 12, TEXT_WORDS = 2385,
         PDDL_BYTES = 1048576;
     u64: STEP_GO = 0, STEP_WAIT = 1, STEP_COLLISION = 2;
     u64: SOLVES = 0, BREAKS = 1, GOAL_SHORT = 2;
@@ -28,7 +29,7 @@ constants! {
     u64: PICK_GO = 0, PICK_COLLISION = 1;
     u64: ASK_GO = 0, ASK_WAIT = 1, ASK_COLLISION = 2;
     u64: ROBUST = 0, UNSOLVABLE = 1, COLLISION = 2, DEADLOCK = 3, MISSED = 4;
-    usize: RUN_COLLIDED = 0, RUN_PLACES = 1, RUN_SHARED = 9, RUN_CHANGE = 10;
+    usize: RUN_COLLIDED = 0, RUN_PLACES = 1, RUN_SHARED = 9, RUN_CHANGE = 11;
     u32: LAST_CHANGE = 4294967295;
 }
 
@@ -37,7 +38,7 @@ pub fn task(task: &[u64]) -> u64 {
     unsafe { lawcheck_task(task.as_ptr(), task.len()) }
 }
 
-/// An action at a shared copy (one word). `out`: 0 go, 1 wait, 2 collision; the new shared copy.
+/// An action at a shared copy (two words). `out`: 0 go, 1 wait, 2 collision; the new shared copy.
 pub fn step(task: &[u64], action: u16, shared: &[u64], out: &mut [u64]) -> u64 {
     unsafe {
         lawcheck_step(
@@ -116,7 +117,7 @@ pub fn joint_replay(
     }
 }
 
-/// A pick on a run of eleven words: collided, eight places, the shared copy, the change number.
+/// A pick on a run of twelve words: collided, eight places, the shared copy, the change number.
 /// `out`: 0 go, 1 collision.
 pub fn pick(
     task: &[u64],
@@ -198,7 +199,7 @@ pub fn commit(
     }
 }
 
-/// The start of a run, written to its eleven words.
+/// The start of a run, written to its twelve words.
 pub fn start(task: &[u64], run: &mut [u64]) -> u64 {
     unsafe { lawcheck_start(task.as_ptr(), task.len(), run.as_mut_ptr(), run.len()) }
 }

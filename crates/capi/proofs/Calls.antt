@@ -4,11 +4,12 @@ use mathlib.Core.Bool.{Bool, true, false, not, _||_}
 use mathlib.Core.List.{List, [], _∷_}
 use Prim.Native.Nat.{ℕ, _≤_, _<_}
 use native.Mathlib.Omega.{arith}
-use lib.ListN.{length, getD}
+use lib.ListN.{length}
 use lib.Dec.{eqb, ltb}
 use borrow.Author.Tests.{lt-ltb, le-ltb, eq-eqb, ne-eqb}
 use mir.Val.{boolByte}
 use Rattle.semantics.specs.Base.{Answer, refused, gives, front}
+use Rattle.semantics.specs.Words.{stateWidth, stateAt}
 use Rattle.semantics.specs.Step.{step}
 use Rattle.semantics.specs.Solo.{soloReplay, soloSearch, SoloSearch}
 use Rattle.semantics.specs.Run.{jointReplay}
@@ -85,39 +86,40 @@ long out k h = le-ltb (length out) k h
 module _ (t shared out : List ℕ) (action : ℕ) where
   abbrev StepCall : Call → Type 0
   StepCall c =
-      c ≡ called (not (eqb (length shared) 1) || ltb (length out) 2) numbers.decision out
-      (step t action (getD shared 0 0))
+      c ≡ called (not (eqb (length shared) stateWidth) || ltb (length out) 3) numbers.decision out
+      (step t action (stateAt shared 0))
 
   abbrev stepShort : Bool
-  stepShort = not (eqb (length shared) 1) || ltb (length out) 2
+  stepShort = not (eqb (length shared) stateWidth) || ltb (length out) 3
 
-  pub step-shared : (length shared ≡ 1 → ⊥) → StepCall (call 14 out)
+  pub step-shared : (length shared ≡ stateWidth → ⊥) → StepCall (call 14 out)
   step-shared h =
-      short-call numbers.decision out (step t action (getD shared 0 0)) stepShort
-      (or-left (not (eqb (length shared) 1)) (ltb (length out) 2) (ap not (ne-eqb (length shared) 1 h)))
+      short-call numbers.decision out (step t action (stateAt shared 0)) stepShort
+      (or-left (not (eqb (length shared) stateWidth)) (ltb (length out) 3)
+      (ap not (ne-eqb (length shared) stateWidth h)))
 
-  pub step-short : length out < 2 → StepCall (call 14 out)
+  pub step-short : length out < 3 → StepCall (call 14 out)
   step-short h =
-      short-call numbers.decision out (step t action (getD shared 0 0)) stepShort
-      (or-right (not (eqb (length shared) 1)) (ltb (length out) 2) (lt-ltb (length out) 2 h))
+      short-call numbers.decision out (step t action (stateAt shared 0)) stepShort
+      (or-right (not (eqb (length shared) stateWidth)) (ltb (length out) 3) (lt-ltb (length out) 3 h))
 
-  module _ (one : length shared ≡ 1) (room : 2 ≤ length out) (m : Mask) (e : number m ≡ getD shared 0 0) (s : Stepped)
-      (is : steppedOf s ≡ step t action (number m)) where
+  module _ (one : length shared ≡ stateWidth) (room : 3 ≤ length out) (m : Mask) (e : number m ≡ stateAt shared 0)
+      (s : Stepped) (is : steppedOf s ≡ step t action (number m)) where
     fits : stepShort ≡ false
-    fits = ap₂ _||_ (ap not (eq-eqb (length shared) 1 one)) (long out 2 room)
+    fits = ap₂ _||_ (ap not (eq-eqb (length shared) stateWidth one)) (long out 3 room)
 
-    answered : (x : Stepped) → s ≡ x → step t action (getD shared 0 0) ≡ steppedOf x
+    answered : (x : Stepped) → s ≡ x → step t action (stateAt shared 0) ≡ steppedOf x
     answered x so = ap (step t action) (sym e) ∙ sym is ∙ ap steppedOf so
 
     pub step-refused : (k : ℕ) → s ≡ stepped.Refused k → StepCall (call k out)
     step-refused k so =
-        refused-call numbers.decision out (step t action (getD shared 0 0)) stepShort k fits
+        refused-call numbers.decision out (step t action (stateAt shared 0)) stepShort k fits
         (answered (stepped.Refused k) so)
 
     pub step-given : (d : Decision) (ns now : List ℕ) → s ≡ stepped.Gives d → ns ≡ numbers.decision (decisionOf d)
         → now ≡ front ns out → StepCall (call 0 now)
     step-given d ns now so e′ put =
-        given-call numbers.decision out (step t action (getD shared 0 0)) stepShort (decisionOf d) now fits
+        given-call numbers.decision out (step t action (stateAt shared 0)) stepShort (decisionOf d) now fits
         (answered (stepped.Gives d) so)
         (put ∙ ap (λ (x : List ℕ). front x out) e′)
 
@@ -148,25 +150,26 @@ module _ (t plan out : List ℕ) (member : ℕ) where
 
 module _ (t plans ends picks out : List ℕ) where
   abbrev JointCall : Call → Type 0
-  JointCall c = c ≡ called (ltb (length out) 4) numbers.replay out (jointReplay t plans ends picks)
+  JointCall c = c ≡ called (ltb (length out) 5) numbers.replay out (jointReplay t plans ends picks)
 
-  pub joint-short : length out < 4 → JointCall (call 14 out)
+  pub joint-short : length out < 5 → JointCall (call 14 out)
   joint-short h =
-      short-call numbers.replay out (jointReplay t plans ends picks) (ltb (length out) 4) (lt-ltb (length out) 4 h)
+      short-call numbers.replay out (jointReplay t plans ends picks) (ltb (length out) 5) (lt-ltb (length out) 5 h)
 
-  module _ (room : 4 ≤ length out) (s : ReplayAnswer)
+  module _ (room : 5 ≤ length out) (s : ReplayAnswer)
       (is : outcomeValue.replayedOf s ≡ jointReplay t plans ends picks) where
     pub joint-refused : (k : ℕ) → s ≡ replayed.Refused k → JointCall (call k out)
     joint-refused k so =
-        refused-call numbers.replay out (jointReplay t plans ends picks) (ltb (length out) 4) k (long out 4 room)
+        refused-call numbers.replay out (jointReplay t plans ends picks) (ltb (length out) 5) k (long out 5 room)
         (sym is ∙ ap outcomeValue.replayedOf so)
 
-    pub joint-given : (r : Replay) (g : ℕ) (ns now : List ℕ) → s ≡ replayed.Gives r → g ≡ number (r .shared .0)
-        → ns ≡ numbers.replayed (outcomeOf (r .outcome)) (r .picked) g → now ≡ front ns out → JointCall (call 0 now)
-    joint-given r g ns now so same e put =
-        given-call numbers.replay out (jointReplay t plans ends picks) (ltb (length out) 4) (outcomeValue.replayOf r) now
-        (long out 4 room) (sym is ∙ ap outcomeValue.replayedOf so)
-        (put ∙ ap (λ (x : List ℕ). front x out) (e ∙ ap (numbers.replayed (outcomeOf (r .outcome)) (r .picked)) same))
+    pub joint-given : (r : Replay) (ns now : List ℕ) → s ≡ replayed.Gives r
+        → ns ≡ numbers.replayed (outcomeOf (r .outcome)) (r .picked) (number (r .shared .0)) → now ≡ front ns out
+        → JointCall (call 0 now)
+    joint-given r ns now so e put =
+        given-call numbers.replay out (jointReplay t plans ends picks) (ltb (length out) 5) (outcomeValue.replayOf r)
+        now (long out 5 room) (sym is ∙ ap outcomeValue.replayedOf so)
+        (put ∙ ap (λ (x : List ℕ). front x out) e)
 
 -- ---- solo search
 
@@ -241,7 +244,7 @@ module _ (run : List ℕ) (b : Bool) (e : b ≡ noRun run) (h : b ≡ false) whe
   pub words-there : runWords ≤ length run
   words-there = run-words run run-there
 
-  pub room-there : (w : List ℕ) → length w ≡ 11 → length w ≤ length run
+  pub room-there : (w : List ℕ) → length w ≡ runWords → length w ≤ length run
   room-there w q = omega (arith, words-there)
 
 -- the two ways to be short, and neither
@@ -305,22 +308,22 @@ module _ (t plans ends run out : List ℕ) (member change : ℕ) (b : Bool) (e :
 module _ (t plans ends run out : List ℕ) (member : ℕ) (b : Bool) (e : b ≡ noRun run) where
   abbrev AskCall : Call → Type 0
   AskCall c =
-      c ≡ called (noRun run || ltb (length out) 4) numbers.asked out (askOn t plans ends (runIn run) member)
+      c ≡ called (noRun run || ltb (length out) 5) numbers.asked out (askOn t plans ends (runIn run) member)
 
-  ask-fails : noRun run || ltb (length out) 4 ≡ true → AskCall (call 14 out)
-  ask-fails = short-call numbers.asked out (askOn t plans ends (runIn run) member) (noRun run || ltb (length out) 4)
+  ask-fails : noRun run || ltb (length out) 5 ≡ true → AskCall (call 14 out)
+  ask-fails = short-call numbers.asked out (askOn t plans ends (runIn run) member) (noRun run || ltb (length out) 5)
 
   pub ask-run : b ≡ true → AskCall (call 14 out)
-  ask-run h = ask-fails (no-run run out 4 b e h)
+  ask-run h = ask-fails (no-run run out 5 b e h)
 
-  pub ask-short : length out < 4 → AskCall (call 14 out)
-  ask-short h = ask-fails (no-room run out 4 b e h)
+  pub ask-short : length out < 5 → AskCall (call 14 out)
+  ask-short h = ask-fails (no-room run out 5 b e h)
 
-  pub ask-told : b ≡ false → 4 ≤ length out → (at : Given) → numberedOf at ≡ runIn run → (a : AskAnswer)
+  pub ask-told : b ≡ false → 5 ≤ length out → (at : Given) → numberedOf at ≡ runIn run → (a : AskAnswer)
       → askedOf a ≡ askOn t plans ends (numberedOf at) member → (c : Call) → c ≡ told numbers.asked out (askedOf a)
       → AskCall c
   ask-told h room at is a q c put =
-      rw (both-there run out 4 b e h room)
+      rw (both-there run out 5 b e h room)
       (put ∙ ap (told numbers.asked out) (q ∙ ap (λ (d : Numbered ℕ). askOn t plans ends d member) is))
 
 -- ---- the readers of a text and of PDDL

@@ -18,7 +18,7 @@ use Rattle.run_dispatch.specs.declared.Started.{Started}
 use Rattle.run_play.specs.Value.{playFrom, playRefusal, answered, PlayMeans}
 use Rattle.run_play.specs.declared.Played.{Played}
 use Rattle.run_play.proofs.Laws.{leaves-none, leaves-some}
-use Rattle.capi_run.specs.Runs.{runWords, noRun, runIn, wordsOf}
+use Rattle.capi_run.specs.Runs.{runWords, noRun, runIn, wordsOfRun}
 use Rattle.capi.specs.Play.{startRefusal, StartCall, refusesPlay, PlayCall}
 
 -- ---- the start
@@ -37,7 +37,7 @@ module _ (t run : List ℕ) where
       record {
         number = is;
         held =
-            leaves-some (startRefusal t run) run (front (wordsOf (first t)) run) (λ z. omega (arith, is, z));
+            leaves-some (startRefusal t run) run (front (wordsOfRun (first t)) run) (λ z. omega (arith, is, z));
       }
 
   module _ (room : runWords ≤ length run) (s : Started)
@@ -52,18 +52,18 @@ module _ (t run : List ℕ) where
         record {
           number = checks .0;
           held =
-              leaves-some (startRefusal t run) run (front (wordsOf (first t)) run) (λ z. h (checks .0 ∙ z));
+              leaves-some (startRefusal t run) run (front (wordsOfRun (first t)) run) (λ z. h (checks .0 ∙ z));
         }
 
-    pub start-given : s .refusal ≡ 0 → (w run′ : List ℕ) → w ≡ wordsOf (numberedOf (s .run)) → run′ ≡ front w run
+    pub start-given : s .refusal ≡ 0 → (w run′ : List ℕ) → w ≡ wordsOfRun (numberedOf (s .run)) → run′ ≡ front w run
         → StartCall t run 0 run′
     start-given z w run′ is held =
         let none : startRefusal t run ≡ 0 = sym (checks .0) ∙ z in
         record {
           number = sym none;
           held =
-              held ∙ ap (λ (l : List ℕ). front l run) (is ∙ ap wordsOf (checks .1 z))
-              ∙ leaves-none (startRefusal t run) run (front (wordsOf (first t)) run) none;
+              held ∙ ap (λ (l : List ℕ). front l run) (is ∙ ap wordsOfRun (checks .1 z))
+              ∙ leaves-none (startRefusal t run) run (front (wordsOfRun (first t)) run) none;
         }
 
 -- ---- a list of picks
@@ -73,7 +73,7 @@ module _ (t plans ends run picks answers : List ℕ) where
   refuses = refusesPlay t plans ends run picks answers
 
   abbrev words : List ℕ
-  words = front (wordsOf (playFrom t plans ends (runIn run) picks)) run
+  words = front (wordsOfRun (playFrom t plans ends (runIn run) picks)) run
 
   abbrev numbers : List ℕ
   numbers = answered t plans ends (runIn run) picks answers
@@ -84,7 +84,8 @@ module _ (t plans ends run picks answers : List ℕ) where
       let some : refuses ≡ 0 → ⊥ = λ z. omega (arith, is, z) in
       record { number = is; held = leaves-some refuses run words some; told = leaves-some refuses answers numbers some }
 
-  module _ (b : Bool) (e : b ≡ noRun run) (room : b ≡ false) (r : Numbered) (in-words : numberedOf r ≡ runIn run) (p : Played) (answers′ : List ℕ)
+  module _ (b : Bool) (e : b ≡ noRun run) (room : b ≡ false) (r : Numbered) (in-words : numberedOf r ≡ runIn run)
+      (p : Played) (answers′ : List ℕ)
       (means : PlayMeans t plans ends (playRefusal t plans ends (numberedOf r) picks answers)
       (numberedOf r) picks answers p answers′) where
     there : PlayMeans t plans ends (playRefusal t plans ends (runIn run) picks answers)
@@ -113,7 +114,7 @@ module _ (t plans ends run picks answers : List ℕ) where
               ∙ leaves-some refuses answers numbers some;
         }
 
-    pub play-given : p .refusal ≡ 0 → (w run′ : List ℕ) → w ≡ wordsOf (numberedOf (p .run)) → run′ ≡ front w run
+    pub play-given : p .refusal ≡ 0 → (w run′ : List ℕ) → w ≡ wordsOfRun (numberedOf (p .run)) → run′ ≡ front w run
         → PlayCall t plans ends run picks answers 0 run′ answers′
     play-given z w run′ q held =
         let none : refuses ≡ 0 = sym is ∙ z in
@@ -124,7 +125,8 @@ module _ (t plans ends run picks answers : List ℕ) where
         (playFrom t plans ends (runIn run) picks) inner) in
         record {
           number = sym none;
-          held = held ∙ ap (λ (l : List ℕ). front l run) (q ∙ ap wordsOf played) ∙ leaves-none refuses run words none;
+          held =
+              held ∙ ap (λ (l : List ℕ). front l run) (q ∙ ap wordsOfRun played) ∙ leaves-none refuses run words none;
           told =
               there .answers
               ∙ sym (leaves-none (playRefusal t plans ends (runIn run) picks answers) answers numbers inner)

@@ -13,7 +13,7 @@ use Rattle.semantics.specs.Dispatch.{Numbered, first}
 use Rattle.run_play.specs.Value.{playFrom, playRefusal, answered}
 use Rattle.capi_numbers.specs.Call.{Call, unlessShort, called}
 use Rattle.capi_numbers.specs.Numbers as numbers
-use Rattle.capi_run.specs.Runs.{runWords, noRun, runIn, wordsOf, after}
+use Rattle.capi_run.specs.Runs.{runWords, noRun, runIn, wordsOfRun, after}
 
 -- a pick or a commit with this meaning, on the run that the words hold: 14 where they hold none or `out` has no room
 pub record RunCall (means : Answer (Replied (Numbered ℕ))) (run out : List ℕ) (c : Call) (run′ : List ℕ) : Type 0 where
@@ -26,7 +26,7 @@ startRefusal t run = (14 if ltb (length run) runWords) else check t
 
 pub record StartCall (t run : List ℕ) (r : ℕ) (run′ : List ℕ) : Type 0 where
   pub number : r ≡ startRefusal t run
-  pub held : run′ ≡ (startRefusal t run leaves (λ k. run) otherwise front (wordsOf (first t)) run)
+  pub held : run′ ≡ (startRefusal t run leaves (λ k. run) otherwise front (wordsOfRun (first t)) run)
 
 -- 14 where the words hold no run, then as the list of picks refuses
 abbrev pub refusesPlay : List ℕ → List ℕ → List ℕ → List ℕ → List ℕ → List ℕ → ℕ
@@ -37,7 +37,7 @@ pub record PlayCall (t plans ends run picks answers : List ℕ) (r : ℕ) (run�
   pub number : r ≡ refusesPlay t plans ends run picks answers
   pub held : run′
       ≡ (refusesPlay t plans ends run picks answers leaves (λ k. run)
-      otherwise front (wordsOf (playFrom t plans ends (runIn run) picks)) run)
+      otherwise front (wordsOfRun (playFrom t plans ends (runIn run) picks)) run)
   pub told : answers′
       ≡ (refusesPlay t plans ends run picks answers leaves (λ k. answers)
       otherwise answered t plans ends (runIn run) picks answers)

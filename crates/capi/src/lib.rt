@@ -4,10 +4,11 @@
 // anything else.
 ghost use mathlib.Core.Path.{_≡_};
 ghost use mathlib.Core.Bool.{not, _||_};
-ghost use lib.ListN.{length, getD};
+ghost use lib.ListN.{length};
 ghost use lib.Dec.{eqb, ltb};
 ghost use Rattle.semantics.specs.Verdict.{lentOf};
 ghost use Rattle.semantics.specs.Task.{check};
+ghost use Rattle.semantics.specs.Words.{stateWidth, stateAt};
 ghost use Rattle.semantics.specs.Step.{step};
 ghost use Rattle.semantics.specs.Solo.{soloReplay, soloSearch};
 ghost use Rattle.semantics.specs.Run.{jointReplay};
@@ -31,9 +32,6 @@ use text::TextRead;
 // The refusal of a slice shorter than stated.
 const SHORT: u64 = 14;
 
-// Words of a mask.
-const MASK_WORDS: usize = 1;
-
 // ---- task check
 
 #[no_mangle]
@@ -48,17 +46,17 @@ pub extern "C" fn lawcheck_task(t: &[u64]) -> u64
 #[no_mangle]
 pub extern "C" fn lawcheck_step(t: &[u64], action: u16, shared: &[u64], out: &mut [u64]) -> u64
     ensures { λ r. ⌜ call r (now (out .exit))
-        ≡ called (not (eqb (length (now (shared .entry))) 1) || ltb
-        (length (now (out .entry))) 2) numbers.decision (now (out .entry))
-        (step (now (t .entry)) action (getD (now (shared .entry)) 0 0)) ⌝ }
+        ≡ called (not (eqb (length (now (shared .entry))) stateWidth) || ltb
+        (length (now (out .entry))) 3) numbers.decision (now (out .entry))
+        (step (now (t .entry)) action (stateAt (now (shared .entry)) 0)) ⌝ }
 {
-    if shared.len() != MASK_WORDS {
+    if shared.len() != mask::WORDS {
         return SHORT;
     }
-    if out.len() < 2 {
+    if out.len() < 3 {
         return SHORT;
     }
-    let s = step::step(t, action, Shared(mask::of_word(shared[0])));
+    let s = step::step(t, action, Shared(mask::load(shared, 0)));
     match s {
         Stepped::Refused(k) => k,
         Stepped::Gives(d) => {
@@ -139,11 +137,11 @@ pub extern "C" fn lawcheck_joint_replay(
     out: &mut [u64],
 ) -> u64
     ensures { λ r. ⌜ call r (now (out .exit))
-        ≡ called (ltb (length (now (out .entry))) 4) numbers.replay (now (out .entry))
+        ≡ called (ltb (length (now (out .entry))) 5) numbers.replay (now (out .entry))
         (jointReplay (now (t .entry)) (now (plans .entry)) (now (ends .entry))
         (now (picks .entry))) ⌝ }
 {
-    if out.len() < 4 {
+    if out.len() < 5 {
         return SHORT;
     }
     let s = run_replay::joint_replay(t, plans, ends, picks);
@@ -152,7 +150,7 @@ pub extern "C" fn lawcheck_joint_replay(
         ReplayAnswer::Gives(r) => {
             let o = r.outcome;
             let g = r.shared;
-            let numbers = capi_numbers::replay_numbers(o, r.picked as u64, mask::to_word(g.0));
+            let numbers = capi_numbers::replay_numbers(o, r.picked as u64, g.0);
             capi_numbers::put(out, &numbers);
             0
         }
@@ -195,7 +193,7 @@ pub extern "C" fn lawcheck_ask(
     out: &mut [u64],
 ) -> u64
     ensures { λ r. ⌜ call r (now (out .exit))
-        ≡ called (noRun (now (run .entry)) || ltb (length (now (out .entry))) 4)
+        ≡ called (noRun (now (run .entry)) || ltb (length (now (out .entry))) 5)
         numbers.asked (now (out .entry))
         (askOn (now (t .entry)) (now (plans .entry)) (now (ends .entry))
         (runIn (now (run .entry))) member) ⌝ }
@@ -203,7 +201,7 @@ pub extern "C" fn lawcheck_ask(
     if capi_run::no_run(run) {
         return SHORT;
     }
-    if out.len() < 4 {
+    if out.len() < 5 {
         return SHORT;
     }
     let a = run_ticket::ask(t, plans, ends, capi_run::run_of(run), member);

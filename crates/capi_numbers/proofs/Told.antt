@@ -2,9 +2,11 @@
 use mathlib.Core.Path.{_≡_, refl, sym, ap, _∙_}
 use mathlib.Core.Bool.{Bool, true, false}
 use mathlib.Core.List.{List, [], _∷_}
-use Prim.Native.Nat.{ℕ}
+use Prim.Native.Nat.{ℕ, _%_, _/_, _^_}
+use lib.ListN.{getD}
 use mir.Val.{boolByte}
 use Rattle.semantics.specs.Base.{_if_}
+use Rattle.semantics.specs.Words.{wordsOf}
 use Rattle.mask.specs.Number.{number}
 use Rattle.mask.specs.declared.Shared.{Shared}
 use Rattle.fault.specs.declared.Fault.{Fault}
@@ -22,38 +24,52 @@ use Rattle.capi_numbers.specs.Numbers as numbers
 
 -- ---- numbers
 
-pub goes : (d : Decision) (g : Shared) (w : ℕ) → d ≡ decision.Go g → w ≡ number (g .0)
-    → 0 ∷ w ∷ [] ≡ numbers.decision (decisionOf d)
-goes d g w is e = ap (λ (x : ℕ). 0 ∷ x ∷ []) e ∙ sym (ap (λ x. numbers.decision (decisionOf x)) is)
+-- the words of a mask, one by one
+words-of : {A : Type 0} (f : ℕ → ℕ → A) (w : List ℕ) (g : ℕ) → w ≡ wordsOf g
+    → f (getD w 0 0) (getD w 1 0) ≡ f (g % 2 ^ 64) (g / 2 ^ 64)
+words-of f w g e = ap (λ (x : List ℕ). f (getD x 0 0) (getD x 1 0)) e
+
+pub goes : (d : Decision) (g : Shared) (w : List ℕ) → d ≡ decision.Go g → w ≡ wordsOf (number (g .0))
+    → 0 ∷ getD w 0 0 ∷ getD w 1 0 ∷ [] ≡ numbers.decision (decisionOf d)
+goes d g w is e =
+    words-of (λ x y. 0 ∷ x ∷ y ∷ []) w (number (g .0)) e ∙ sym (ap (λ x. numbers.decision (decisionOf x)) is)
 
 pub breaks : (s : Solo) (k : ℕ) → s ≡ solo.Breaks k → 1 ∷ k ∷ [] ≡ numbers.solo (soloOf s)
 breaks s k is = sym (ap (λ x. numbers.solo (soloOf x)) is)
 
-module _ (o : Outcome) (k g : ℕ) where
-  abbrev told : List ℕ
-  told = numbers.replayed (outcomeOf o) k g
+module _ (o : Outcome) (k g : ℕ) (w : List ℕ) (e : w ≡ wordsOf g) where
+  -- a kind, a member, the picks done, the words of the shared copy
+  abbrev row : ℕ → ℕ → List ℕ
+  row kind j = kind ∷ j ∷ k ∷ getD w 0 0 ∷ getD w 1 0 ∷ []
 
-  of : (x : Outcome) → o ≡ x → numbers.replayed (outcomeOf x) k g ≡ told
-  of x is = sym (ap (λ y. numbers.replayed (outcomeOf y) k g) is)
+  of : (kind j : ℕ) (x : Outcome) → numbers.replayed (outcomeOf x) k g ≡ kind ∷ j ∷ k ∷ wordsOf g → o ≡ x
+      → row kind j ≡ numbers.replayed (outcomeOf o) k g
+  of kind j x told is =
+      words-of (λ x y. kind ∷ j ∷ k ∷ x ∷ y ∷ []) w g e ∙ sym (ap (λ y. numbers.replayed (outcomeOf y) k g) is ∙ told)
 
-  pub success : o ≡ outcome.Success → 0 ∷ 0 ∷ k ∷ g ∷ [] ≡ numbers.replayed (outcomeOf o) k g
-  success = of outcome.Success
+  pub success : o ≡ outcome.Success → 0 ∷ 0 ∷ k ∷ getD w 0 0 ∷ getD w 1 0 ∷ [] ≡ numbers.replayed (outcomeOf o) k g
+  success = of 0 0 outcome.Success refl
 
   module _ (f : Fault) (fails : o ≡ outcome.Failure f) where
-    by : (x : Fault) → f ≡ x → numbers.replayed (outcomeOf (outcome.Failure x)) k g ≡ told
-    by x is = of (outcome.Failure x) (fails ∙ ap outcome.Failure is)
+    by : (kind j : ℕ) (x : Fault)
+        → numbers.replayed (outcomeOf (outcome.Failure x)) k g ≡ kind ∷ j ∷ k ∷ wordsOf g → f ≡ x
+        → row kind j ≡ numbers.replayed (outcomeOf o) k g
+    by kind j x told is = of kind j (outcome.Failure x) told (fails ∙ ap outcome.Failure is)
 
-    pub collision : f ≡ fault.Collision → 1 ∷ 0 ∷ k ∷ g ∷ [] ≡ numbers.replayed (outcomeOf o) k g
-    collision = by fault.Collision
+    pub collision : f ≡ fault.Collision
+        → 1 ∷ 0 ∷ k ∷ getD w 0 0 ∷ getD w 1 0 ∷ [] ≡ numbers.replayed (outcomeOf o) k g
+    collision = by 1 0 fault.Collision refl
 
-    pub deadlock : f ≡ fault.Deadlock → 2 ∷ 0 ∷ k ∷ g ∷ [] ≡ numbers.replayed (outcomeOf o) k g
-    deadlock = by fault.Deadlock
+    pub deadlock : f ≡ fault.Deadlock
+        → 2 ∷ 0 ∷ k ∷ getD w 0 0 ∷ getD w 1 0 ∷ [] ≡ numbers.replayed (outcomeOf o) k g
+    deadlock = by 2 0 fault.Deadlock refl
 
-    pub missed : (j : ℕ) → f ≡ fault.Missed j → 3 ∷ j ∷ k ∷ g ∷ [] ≡ numbers.replayed (outcomeOf o) k g
-    missed j = by (fault.Missed j)
+    pub missed : (j : ℕ) → f ≡ fault.Missed j
+        → 3 ∷ j ∷ k ∷ getD w 0 0 ∷ getD w 1 0 ∷ [] ≡ numbers.replayed (outcomeOf o) k g
+    missed j = by 3 j (fault.Missed j) refl
 
-  pub still-open : o ≡ outcome.Open → 4 ∷ 0 ∷ k ∷ g ∷ [] ≡ numbers.replayed (outcomeOf o) k g
-  still-open = of outcome.Open
+  pub still-open : o ≡ outcome.Open → 4 ∷ 0 ∷ k ∷ getD w 0 0 ∷ getD w 1 0 ∷ [] ≡ numbers.replayed (outcomeOf o) k g
+  still-open = of 4 0 outcome.Open refl
 
 pub byte : (b : Bool) → boolByte b ≡ (1 if b)
 byte true = refl

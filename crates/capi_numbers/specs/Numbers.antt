@@ -2,6 +2,7 @@
 use mathlib.Core.List.{List, [], _∷_, _++_}
 use Prim.Native.Nat.{ℕ}
 use Rattle.semantics.specs.Base.{_if_}
+use Rattle.semantics.specs.Words.{wordsOf}
 use Rattle.semantics.specs.Step.{Decision}
 use Rattle.semantics.specs.Solo.{Solo, solves, breaks, short, Searched}
 use Rattle.semantics.specs.PddlWrite.{Lengths}
@@ -9,11 +10,11 @@ use Rattle.semantics.specs.Run.{Fault, Reply, Replied, Outcome, success, failur
 use Rattle.semantics.specs.Dispatch.{Numbered, Asked}
 use Rattle.semantics.specs.Verdict.{Verdict, unsolvable, notRobust, robust, Failing}
 
--- 0 go, 1 wait, 2 collision; the new shared copy
+-- 0 go, 1 wait, 2 collision; the words of the new shared copy
 abbrev pub decision : Decision ℕ → List ℕ
-decision (Decision.go g) = 0 ∷ g ∷ []
-decision Decision.wait = 1 ∷ 0 ∷ []
-decision Decision.collision = 2 ∷ 0 ∷ []
+decision (Decision.go g) = 0 ∷ wordsOf g
+decision Decision.wait = 1 ∷ 0 ∷ 0 ∷ []
+decision Decision.collision = 2 ∷ 0 ∷ 0 ∷ []
 
 -- 0 solves, 1 breaks, 2 short; the index
 abbrev pub solo : Solo → List ℕ
@@ -25,13 +26,13 @@ solo short = 2 ∷ 0 ∷ []
 abbrev pub searched : Searched → List ℕ
 searched s = s .count ∷ (1 if s .live) ∷ s .marked ∷ []
 
--- 0 success, 1 collision, 2 deadlock, 3 missed, 4 open; member; picks done; shared copy
+-- 0 success, 1 collision, 2 deadlock, 3 missed, 4 open; member; picks done; the words of the shared copy
 abbrev pub replayed : Outcome → ℕ → ℕ → List ℕ
-replayed success k g = 0 ∷ 0 ∷ k ∷ g ∷ []
-replayed (failure Fault.collision) k g = 1 ∷ 0 ∷ k ∷ g ∷ []
-replayed (failure Fault.deadlock) k g = 2 ∷ 0 ∷ k ∷ g ∷ []
-replayed (failure (Fault.missed j)) k g = 3 ∷ j ∷ k ∷ g ∷ []
-replayed still-open k g = 4 ∷ 0 ∷ k ∷ g ∷ []
+replayed success k g = 0 ∷ 0 ∷ k ∷ wordsOf g
+replayed (failure Fault.collision) k g = 1 ∷ 0 ∷ k ∷ wordsOf g
+replayed (failure Fault.deadlock) k g = 2 ∷ 0 ∷ k ∷ wordsOf g
+replayed (failure (Fault.missed j)) k g = 3 ∷ j ∷ k ∷ wordsOf g
+replayed still-open k g = 4 ∷ 0 ∷ k ∷ wordsOf g
 
 abbrev pub replay : Replay ℕ → List ℕ
 replay r = replayed (r .outcome) (r .picked) (r .shared)

@@ -5,6 +5,7 @@ ghost use mathlib.Core.List.{[], _∷_};
 ghost use Prim.Native.Nat.{_≤_};
 ghost use lib.ListN.{length};
 ghost use Rattle.semantics.specs.Base.{front};
+ghost use Rattle.mask.specs.Number.{number};
 ghost use Rattle.step.specs.Value.{decisionOf};
 ghost use Rattle.solo_replay.specs.Value.{soloOf};
 ghost use Rattle.run_outcome.specs.Value.{outcomeOf};
@@ -15,6 +16,7 @@ use fault::Failing;
 use fault::Fault;
 use fault::Verdict;
 use fault::VerdictAnswer;
+use mask::Mask;
 use run_outcome::Outcome;
 use solo_replay::Solo;
 use step::Decision;
@@ -31,13 +33,16 @@ pub fn put(slice: &mut [u64], numbers: &[u64])
     }
 }
 
-pub fn decision_numbers(d: Decision) -> [u64; 2]
+pub fn decision_numbers(d: Decision) -> [u64; 3]
     ensures { λ r. ⌜ r ≡ numbers.decision (decisionOf d) ⌝ }
 {
     match d {
-        Decision::Go(g) => [0, mask::to_word(g.0)],
-        Decision::Wait => [1, 0],
-        Decision::Collision => [2, 0],
+        Decision::Go(g) => {
+            let w = mask::words(g.0);
+            [0, w[0], w[1]]
+        }
+        Decision::Wait => [1, 0, 0],
+        Decision::Collision => [2, 0, 0],
     }
 }
 
@@ -51,17 +56,20 @@ pub fn solo_numbers(s: Solo) -> [u64; 2]
     }
 }
 
-pub fn replay_numbers(o: Outcome, k: u64, g: u64) -> [u64; 4]
-    ensures { λ r. ⌜ r ≡ numbers.replayed (outcomeOf o) k g ⌝ }
+pub fn replay_numbers(o: Outcome, k: u64, g: Mask) -> [u64; 5]
+    ensures { λ r. ⌜ r ≡ numbers.replayed (outcomeOf o) k (number g) ⌝ }
 {
+    let w = mask::words(g);
+    let low = w[0];
+    let high = w[1];
     match o {
-        Outcome::Success => [0, 0, k, g],
+        Outcome::Success => [0, 0, k, low, high],
         Outcome::Failure(f) => match f {
-            Fault::Collision => [1, 0, k, g],
-            Fault::Deadlock => [2, 0, k, g],
-            Fault::Missed(j) => [3, j as u64, k, g],
+            Fault::Collision => [1, 0, k, low, high],
+            Fault::Deadlock => [2, 0, k, low, high],
+            Fault::Missed(j) => [3, j as u64, k, low, high],
         },
-        Outcome::Open => [4, 0, k, g],
+        Outcome::Open => [4, 0, k, low, high],
     }
 }
 

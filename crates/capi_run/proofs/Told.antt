@@ -12,6 +12,7 @@ use borrow.Author.Tests.{lt-ltb, le-ltb, ltb-false}
 use mir.Syntax.{w32}
 use mir.Val.{Fits}
 use Rattle.semantics.specs.Base.{numbersFrom, front}
+use Rattle.semantics.specs.Words.{ofWords, wordsOf}
 use Rattle.semantics.specs.Run as Paper
 use Rattle.semantics.specs.Dispatch.{lastChange}
 use Rattle.theory.proofs.Lists.{or-left, or-false-elim}
@@ -36,7 +37,8 @@ use Rattle.run_ticket.specs.declared.Numbered.{Numbered}
 use Rattle.run_ticket.specs.declared.Ticket.{Ticket}
 use Rattle.capi_numbers.specs.Numbers as numbers
 use Rattle.capi_numbers.specs.Call.{call, told as tells}
-use Rattle.capi_run.specs.Runs.{runWords, noRun, closedIn, closedWord, openIn, runIn, wordsOf, after}
+use Rattle.capi_run.specs.Runs.{runWords, noRun, closedIn, closedWord, openIn, runIn, wordsOfRun}
+use Rattle.capi_run.specs.Runs.{after}
 
 -- ---- the words of a run
 
@@ -60,19 +62,19 @@ entries l f (suc n) h =
 pub few-words : (words : List ℕ) → length words < runWords → true ≡ noRun words
 few-words words h = sym (or-left (ltb (length words) runWords) _ (lt-ltb (length words) runWords h))
 
-pub many-words : (words : List ℕ) → runWords ≤ length words → ltb lastChange (getD words 10 0) ≡ noRun words
+pub many-words : (words : List ℕ) → runWords ≤ length words → ltb lastChange (getD words 11 0) ≡ noRun words
 many-words words h = rw (le-ltb (length words) runWords h)
 
 pub run-words : (words : List ℕ) → noRun words ≡ false → runWords ≤ length words
 run-words words h = ltb-false (length words) runWords (or-false-elim (ltb (length words) runWords) _ h .0)
 
-pub run-change : (words : List ℕ) → noRun words ≡ false → Fits w32 (getD words 10 0)
+pub run-change : (words : List ℕ) → noRun words ≡ false → Fits w32 (getD words 11 0)
 run-change words h =
-    let most = ltb-false lastChange (getD words 10 0) (or-false-elim (ltb (length words) runWords) _ h .1) in
+    let most = ltb-false lastChange (getD words 11 0) (or-false-elim (ltb (length words) runWords) _ h .1) in
     record { fits = omega (arith, most) }
 
 -- the run that the words hold
-pub open-held : (words : List ℕ) (m : Mask) → number m ≡ getD words 9 0 → (c : Closed)
+pub open-held : (words : List ℕ) (m : Mask) → number m ≡ ofWords (getD words 9 0) (getD words 10 0) → (c : Closed)
     → closedOf c ≡ closedIn (getD words 0 0)
     → runWords ≤ length words
     → runOf (record {
@@ -89,16 +91,16 @@ open-held words m e c is room =
     λ i. record { shared = e i; places = λ j. getD (places i) j 0; closed = is i }
 
 pub run-held : (words : List ℕ) (r : Run) → runOf r ≡ openIn words
-    → numberedOf (record { run = r; change = getD words 10 0 }) ≡ runIn words
-run-held words r e = ap (λ (x : Paper.Run ℕ). record { run = x; change = getD words 10 0 }) e
+    → numberedOf (record { run = r; change = getD words 11 0 }) ≡ runIn words
+run-held words r e = ap (λ (x : Paper.Run ℕ). record { run = x; change = getD words 11 0 }) e
 
 -- the words of a run
-pub words-held : (d : Numbered) (w : ℕ) → w ≡ number (d .run .shared .0) → (c : ℕ)
+pub words-held : (d : Numbered) (w : List ℕ) → w ≡ wordsOf (number (d .run .shared .0)) → (c : ℕ)
     → c ≡ closedWord (closedOf (d .run .closed))
     → c ∷ getD (d .run .places) 0 0 ∷ getD (d .run .places) 1 0 ∷ getD (d .run .places) 2 0 ∷ getD
     (d .run .places) 3 0 ∷ getD (d .run .places) 4 0 ∷ getD (d .run .places) 5 0 ∷ getD (d .run .places) 6 0 ∷ getD
-    (d .run .places) 7 0 ∷ w ∷ d .change ∷ []
-    ≡ wordsOf (numberedOf d)
+    (d .run .places) 7 0 ∷ getD w 0 0 ∷ getD w 1 0 ∷ d .change ∷ []
+    ≡ wordsOfRun (numberedOf d)
 unfolding numbersFrom
 words-held d w e c is = rw (is, e)
 
@@ -118,21 +120,21 @@ module _ (p : Dispatched) (words : List ℕ) where
   refused-words k e = rw e
 
   pub done-words : (r : Reply) → p .answer ≡ answer.Gives r → (words′ : List ℕ)
-      → words′ ≡ front (wordsOf (numberedOf (p .run))) words → words′ ≡ after words (dispatchedOf p)
+      → words′ ≡ front (wordsOfRun (numberedOf (p .run))) words → words′ ≡ after words (dispatchedOf p)
   done-words r e words′ held = rw e held
 
 module _ (d : Decision) (k : Ticket) where
-  pub asked-go : (g : Shared) → d ≡ decision.Go g → (w : ℕ) → w ≡ number (g .0)
-      → 0 ∷ w ∷ k .member ∷ k .change ∷ []
+  pub asked-go : (g : Shared) → d ≡ decision.Go g → (w : List ℕ) → w ≡ wordsOf (number (g .0))
+      → 0 ∷ getD w 0 0 ∷ getD w 1 0 ∷ k .member ∷ k .change ∷ []
       ≡ numbers.asked (record { decision = decisionOf d; ticket = ticketOf k })
   asked-go g e w q = rw (e, q)
 
   pub asked-wait : d ≡ decision.Wait
-      → 1 ∷ 0 ∷ k .member ∷ k .change ∷ [] ≡ numbers.asked (record { decision = decisionOf d; ticket = ticketOf k })
+      → 1 ∷ 0 ∷ 0 ∷ k .member ∷ k .change ∷ [] ≡ numbers.asked (record { decision = decisionOf d; ticket = ticketOf k })
   asked-wait e = rw e
 
   pub asked-collision : d ≡ decision.Collision
-      → 2 ∷ 0 ∷ k .member ∷ k .change ∷ [] ≡ numbers.asked (record { decision = decisionOf d; ticket = ticketOf k })
+      → 2 ∷ 0 ∷ 0 ∷ k .member ∷ k .change ∷ [] ≡ numbers.asked (record { decision = decisionOf d; ticket = ticketOf k })
   asked-collision e = rw e
 
 module _ (out : List ℕ) (a : AskAnswer) where

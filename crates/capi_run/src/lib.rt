@@ -11,7 +11,7 @@ ghost use Rattle.run_ticket.specs.Value.{numberedOf, ticketOf, askedOf, dispatc
 ghost use Rattle.capi_numbers.specs.Call.{call, told};
 ghost use Rattle.capi_numbers.specs.Numbers as numbers;
 ghost use Rattle.capi_run.specs.Runs.{runWords, noRun, closedIn, closedWord, openIn, runIn};
-ghost use Rattle.capi_run.specs.Runs.{wordsOf, after};
+ghost use Rattle.capi_run.specs.Runs.{wordsOfRun, after};
 use fault::Fault;
 use mask::Shared;
 use run_pick::Answer;
@@ -46,7 +46,7 @@ fn closed_word(c: Closed) -> u64
 }
 
 // Words of a run.
-pub const RUN_WORDS: usize = 11;
+pub const RUN_WORDS: usize = 12;
 
 // The greatest change number of 32 bits.
 const LAST_CHANGE: u64 = 4294967295;
@@ -58,7 +58,7 @@ pub fn no_run(words: &[u64]) -> bool
     if words.len() < RUN_WORDS {
         return true;
     }
-    LAST_CHANGE < words[10]
+    LAST_CHANGE < words[11]
 }
 
 // The run that the words hold, without its change number.
@@ -66,7 +66,7 @@ fn open_of(words: &[u64]) -> Run
     requires { ⌜ runWords ≤ length (now words) ⌝ }
     ensures { λ r. ⌜ runOf r ≡ openIn (now (words .entry)) ⌝ }
 {
-    let g = Shared(mask::of_word(words[9]));
+    let g = Shared(mask::of_words(words[9], words[10]));
     let places = [
         words[1],
         words[2],
@@ -91,7 +91,7 @@ pub fn run_of(words: &[u64]) -> Numbered
     ensures { λ r. ⌜ numberedOf r ≡ runIn (now (words .entry)) ⌝ }
 {
     let run = open_of(words);
-    let change = words[10] as u32;
+    let change = words[11] as u32;
     Numbered {
         run: run,
         change: change,
@@ -99,17 +99,30 @@ pub fn run_of(words: &[u64]) -> Numbered
 }
 
 // The words of a run.
-pub fn words_of(d: Numbered) -> [u64; 11]
-    ensures { λ w. ⌜ w ≡ wordsOf (numberedOf d) ⌝ }
+pub fn words_of(d: Numbered) -> [u64; RUN_WORDS]
+    ensures { λ w. ⌜ w ≡ wordsOfRun (numberedOf d) ⌝ }
 {
     let r = d.run;
     let p = r.places;
     let g = r.shared;
     let closed = r.closed;
     let c = closed_word(closed);
-    let w = mask::to_word(g.0);
+    let w = mask::words(g.0);
     let n = d.change as u64;
-    [c, p[0], p[1], p[2], p[3], p[4], p[5], p[6], p[7], w, n]
+    [
+        c,
+        p[0],
+        p[1],
+        p[2],
+        p[3],
+        p[4],
+        p[5],
+        p[6],
+        p[7],
+        w[0],
+        w[1],
+        n,
+    ]
 }
 
 // ---- what is told
@@ -128,7 +141,7 @@ fn done(words: &mut [u64], d: Numbered, out: &mut [u64], number: u64) -> u64
     requires { ⌜ runWords ≤ length (now words) ⌝ }
     requires { ⌜ 1 ≤ length (now out) ⌝ }
     ensures { λ c. ⌜ call c (now (out .exit)) ≡ call 0 (front (number ∷ []) (now (out .entry))) ⌝ }
-    ensures { λ _. ⌜ now (words .exit) ≡ front (wordsOf (numberedOf d)) (now (words .entry)) ⌝ }
+    ensures { λ _. ⌜ now (words .exit) ≡ front (wordsOfRun (numberedOf d)) (now (words .entry)) ⌝ }
 {
     let w = words_of(d);
     capi_numbers::put(words, &w);
@@ -156,21 +169,24 @@ pub fn tell_dispatched(words: &mut [u64], p: Dispatched, out: &mut [u64]) -> u64
     }
 }
 
-fn asked_numbers(d: Decision, k: Ticket) -> [u64; 4]
+fn asked_numbers(d: Decision, k: Ticket) -> [u64; 5]
     ensures { λ r. ⌜ r ≡ numbers.asked (record { decision = decisionOf d; ticket = ticketOf k }) ⌝ }
 {
     let j = k.member as u64;
     let n = k.change as u64;
     match d {
-        Decision::Go(g) => [0, mask::to_word(g.0), j, n],
-        Decision::Wait => [1, 0, j, n],
-        Decision::Collision => [2, 0, j, n],
+        Decision::Go(g) => {
+            let w = mask::words(g.0);
+            [0, w[0], w[1], j, n]
+        }
+        Decision::Wait => [1, 0, 0, j, n],
+        Decision::Collision => [2, 0, 0, j, n],
     }
 }
 
 // What an ask answers.
 pub fn tell_asked(a: AskAnswer, out: &mut [u64]) -> u64
-    requires { ⌜ 4 ≤ length (now out) ⌝ }
+    requires { ⌜ 5 ≤ length (now out) ⌝ }
     ensures { λ c. ⌜ call c (now (out .exit))
         ≡ told numbers.asked (now (out .entry)) (askedOf a) ⌝ }
 {

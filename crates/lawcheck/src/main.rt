@@ -25,14 +25,14 @@ const TEXT_ROOM: usize = program::MOST_TEXT + 1;
 
 // The `ensures` gives only the length, which lending the array as a slice needs.
 fn text_room() -> [u8; TEXT_ROOM]
-    ensures { λ r. ⌜ 28091 ≡ length r ⌝ }
+    ensures { λ r. ⌜ 50351 ≡ length r ⌝ }
 {
     [0; TEXT_ROOM]
 }
 
 // Room for the longest file.
 fn file_room() -> [u8; program::MOST_BYTES]
-    ensures { λ r. ⌜ 405817 ≡ length r ⌝ }
+    ensures { λ r. ⌜ 203065 ≡ length r ⌝ }
 {
     [0; program::MOST_BYTES]
 }

@@ -1,2 +1,2 @@
-mod Shift
+pub mod Halves
 pub mod Stored

@@ -5,18 +5,19 @@ ghost use Prim.Native.Nat.{_<_};
 ghost use lib.ListN.{length};
 ghost use lib.Dec.{eqb};
 ghost use Rattle.semantics.specs.Mask.{within, after, below};
-ghost use Rattle.semantics.specs.Words.{wordsOf, statesIn};
+ghost use Rattle.semantics.specs.Words.{ofWords, wordsOf, statesIn};
 ghost use Rattle.mask.specs.Number.{number};
 ghost use Rattle.mask.specs.Inner.Stored.{maskAt, withMask};
 
 // How many words a mask takes.
-pub const WORDS: usize = 1;
+pub const WORDS: usize = 2;
 
 // The words of one.
 pub type Words = [u64; WORDS];
 
-// A set of facts: bit f stands for fact f.
-pub struct Mask(pub u64);
+// A set of facts: the low word, then the high word. Bit f stands for fact f, and for fact 64 + f in
+// the high word.
+pub struct Mask(pub u64, pub u64);
 
 // A member's local copy.
 pub struct Local(pub Mask);
@@ -24,18 +25,18 @@ pub struct Local(pub Mask);
 // The shared copy.
 pub struct Shared(pub Mask);
 
-// The mask that a word holds.
-pub fn of_word(word: u64) -> Mask
-    ensures { λ r. ⌜ number r ≡ word ⌝ }
+// The mask that two words hold.
+pub fn of_words(low: u64, high: u64) -> Mask
+    ensures { λ r. ⌜ number r ≡ ofWords low high ⌝ }
 {
-    Mask(word)
+    Mask(low, high)
 }
 
-// The word that holds a mask.
-pub fn to_word(m: Mask) -> u64
-    ensures { λ r. ⌜ r ≡ number m ⌝ }
+// The words that hold a mask.
+pub fn words(m: Mask) -> Words
+    ensures { λ r. ⌜ r ≡ wordsOf (number m) ⌝ }
 {
-    m.0
+    [m.0, m.1]
 }
 
 // How many masks have room in so many words.
@@ -45,19 +46,13 @@ pub fn room(words: usize) -> usize
     words / WORDS
 }
 
-// The words that hold a mask.
-pub fn words(m: Mask) -> Words
-    ensures { λ r. ⌜ r ≡ wordsOf (number m) ⌝ }
-{
-    [m.0; WORDS]
-}
-
 // Mask k of those that stand in the words, one after the other.
 pub fn load(words: &[u64], k: usize) -> Mask
     requires { ⌜ k < statesIn (length (now words)) ⌝ }
     ensures { λ r. ⌜ number r ≡ maskAt (now (words .entry)) k ⌝ }
 {
-    Mask(words[k])
+    let at = k * WORDS;
+    Mask(words[at], words[at + 1])
 }
 
 // m as mask k.
@@ -65,34 +60,71 @@ pub fn store(words: &mut [u64], k: usize, m: Mask)
     requires { ⌜ k < statesIn (length (now words)) ⌝ }
     ensures { λ _. ⌜ now (words .exit) ≡ withMask (now (words .entry)) k (number m) ⌝ }
 {
-    words[k] = m.0;
+    let at = k * WORDS;
+    words[at] = m.0;
+    words[at + 1] = m.1;
 }
 
 // The same facts.
 pub fn same(a: Mask, b: Mask) -> bool
     ensures { λ r. ⌜ r ≡ eqb (number a) (number b) ⌝ }
 {
-    a.0 == b.0
+    if a.0 != b.0 {
+        return false;
+    }
+    a.1 == b.1
+}
+
+// ---- what a step needs and does, word by word
+
+// Each fact of the word a stands in b.
+fn word_within(a: u64, b: u64) -> bool
+    ensures { λ r. ⌜ r ≡ within a b ⌝ }
+{
+    a & b == a
+}
+
+// The word s without del, then with add.
+fn word_after(s: u64, add: u64, del: u64) -> u64
+    ensures { λ r. ⌜ r ≡ after s add del ⌝ }
+{
+    let rest = s - (s & del);
+    rest | add
+}
+
+// No bit of the word x at or above facts.
+fn word_below(facts: u64, x: u64) -> bool
+    ensures { λ r. ⌜ r ≡ below facts x ⌝ }
+{
+    if facts < 64 { x >> facts == 0 } else { true }
 }
 
 // Each fact of a stands in b.
 pub fn within(a: Mask, b: Mask) -> bool
     ensures { λ r. ⌜ r ≡ within (number a) (number b) ⌝ }
 {
-    a.0 & b.0 == a.0
+    if !word_within(a.0, b.0) {
+        return false;
+    }
+    word_within(a.1, b.1)
 }
 
 // The state s without del, then with add.
 pub fn after(s: Mask, add: Mask, del: Mask) -> Mask
     ensures { λ r. ⌜ number r ≡ after (number s) (number add) (number del) ⌝ }
 {
-    let rest = s.0 - (s.0 & del.0);
-    Mask(rest | add.0)
+    Mask(word_after(s.0, add.0, del.0), word_after(s.1, add.1, del.1))
 }
 
 // No bit of x at or above facts.
 pub fn below(facts: u64, x: Mask) -> bool
     ensures { λ r. ⌜ r ≡ below facts (number x) ⌝ }
 {
-    if facts < 64 { x.0 >> facts == 0 } else { true }
+    if 64 <= facts {
+        return word_below(facts - 64, x.1);
+    }
+    if x.1 != 0 {
+        return false;
+    }
+    word_below(facts, x.0)
 }

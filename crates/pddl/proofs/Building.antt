@@ -1,40 +1,41 @@
 -- The task's rows, one after the other.
 use mathlib.Core.Path.{_≡_, refl, sym, ap, _∙_}
 use mathlib.Core.Bool.{true}
-use mathlib.Core.List.{List, [], _∷_, _++_, map, flatten}
+use mathlib.Core.List.{List, [], _∷_, _++_, flatten}
 use Prim.Native.Nat.{ℕ, suc, _+_, _*_, _≤_}
 use native.Mathlib.Omega.{arith}
 use lib.ListN.{length, take, length-append}
 use lib.Seq.{length-take-le, paste, length-paste, take-paste}
-use Rattle.semantics.specs.Base.{upTo}
-use Rattle.semantics.specs.Task.{check}
+use Rattle.semantics.specs.Words.{statesIn}
+use Rattle.semantics.specs.Task.{rowWidth, check}
 use Rattle.semantics.specs.Text.{textWords}
 use Rattle.semantics.specs.Pddl as Pddl
 use Rattle.semantics.specs.Pddl.{predicatesOf, actionsOf, named, goalRows, ownRows, actionRows}
-use Rattle.semantics.specs.Pddl.{waitsKnown, waitMask}
-use Rattle.theory.proofs.Lists.{getD-upTo}
+use Rattle.semantics.specs.Pddl.{waitsKnown}
+use Rattle.mask.specs.Number.{number}
 use Rattle.pddl_waits.proofs.Waits.{known-more}
 use Rattle.pddl_waits.specs.declared.Reading.{Reading}
 use Rattle.pddl_waits.specs.Inner.Waits.{WaitsIn}
 use Rattle.pddl_name.specs.Inner.Table.{namesIn}
 use Rattle.pddl_section.specs.Inner.Section.{membersFrom}
 use Rattle.pddl_named.specs.declared.Common.{Common}
-use Rattle.pddl_theory.specs.Inner.Appended.{row, Appended}
-use Rattle.pddl_words.specs.Inner.Built.{Waits}
+use Rattle.pddl_theory.specs.Inner.Limits.{mostFacts}
+use Rattle.pddl_theory.specs.Inner.Appended.{Appended}
+use Rattle.pddl_words.specs.Inner.Built.{headWords}
 use Rattle.pddl_theory.proofs.Appending.{both}
 use Rattle.pddl_acts.specs.declared.Own.{Own}
 use Rattle.pddl_named.proofs.Passing.{own-length}
-use Rattle.pddl.specs.Inner.Law.{NamedIn, rowsOf, BuiltOf}
+use Rattle.pddl.specs.Inner.Law.{mostWords, NamedIn, rowsOf, BuiltOf}
 
 -- ---- how many words
 
-goals-length : (P : List (List ℕ)) (i : ℕ) (ms : List Pddl.Member) → length (goalRows P i ms) ≡ 5 * length ms
+goals-length : (P : List (List ℕ)) (i : ℕ) (ms : List Pddl.Member) → length (goalRows P i ms) ≡ rowWidth * length ms
 unfolding goalRows
 goals-length P i [] = refl
 goals-length P i (m ∷ ms) = omega (arith, goals-length P (suc i) ms)
 
 actions-length : (P : List (List ℕ)) (waits : List ℕ) (i a : ℕ) (ms : List Pddl.Member)
-    → length (actionRows P waits i a ms) ≡ 5 * length (actionsOf ms)
+    → length (actionRows P waits i a ms) ≡ rowWidth * length (actionsOf ms)
 unfolding actionRows flatten
 actions-length P waits i a [] = refl
 actions-length P waits i a (m ∷ ms) =
@@ -59,37 +60,39 @@ pasted t words at n h l =
     }
 
 module _ (c : Common) (members actions : ℕ) (few-members : members ≤ 8) (few-actions : actions ≤ 256)
-    (t₀ t₁ t₂ t₃ goals acts : List ℕ) (long : 1325 ≤ length t₀) (goals-long : 5 * 8 ≤ length goals)
-    (acts-long : 5 * 256 ≤ length acts) (head : Appended t₀ 0 (row (c .facts) members actions (c .mask) 0) t₁)
-    (first : ℕ) (is-first : first ≡ 5 * members) (goals-copied : t₂ ≡ paste t₁ 5 goals first)
-    (from words : ℕ) (is-from : from ≡ 5 + first) (is-words : words ≡ 5 * actions)
+    (t₀ t₁ t₂ t₃ goals acts : List ℕ) (long : mostWords ≤ length t₀) (goals-long : rowWidth * 8 ≤ length goals)
+    (acts-long : rowWidth * 256 ≤ length acts)
+    (head : Appended t₀ 0 (headWords (c .facts) members actions (number (c .mask))) t₁)
+    (first : ℕ) (is-first : first ≡ rowWidth * members) (goals-copied : t₂ ≡ paste t₁ rowWidth goals first)
+    (from words : ℕ) (is-from : from ≡ rowWidth + first) (is-words : words ≡ rowWidth * actions)
     (acts-copied : t₃ ≡ paste t₂ from acts words) where
   abbrev front : List ℕ
-  front = row (c .facts) members actions (c .mask) 0
+  front = headWords (c .facts) members actions (number (c .mask))
 
   abbrev its : List ℕ
-  its = take (5 * members) goals
+  its = take (rowWidth * members) goals
 
-  its-length : length its ≡ 5 * members
-  its-length = length-take-le (5 * members) goals (omega arith)
+  its-length : length its ≡ rowWidth * members
+  its-length = length-take-le (rowWidth * members) goals (omega arith)
 
-  goals-in : Appended t₁ 5 its t₂
+  goals-in : Appended t₁ rowWidth its t₂
   goals-in =
-      rw (goals-copied, is-first) (pasted t₁ goals 5 (5 * members) (omega (arith, head .kept)) (omega arith))
+      rw (goals-copied, is-first)
+      (pasted t₁ goals rowWidth (rowWidth * members) (omega (arith, head .kept)) (omega arith))
 
   head-goals : Appended t₀ 0 (front ++ its) t₂
-  head-goals = both head (rw five goals-in)
+  head-goals = both head (rw nine goals-in)
     where
-      five : 5 ≡ 0 + length front
-      five = refl
+      nine : rowWidth ≡ 0 + length front
+      nine = refl
 
   behind : from ≡ 0 + length (front ++ its)
   behind = omega (arith, length-append front its, its-length)
 
-  acts-in : Appended t₂ from (take (5 * actions) acts) t₃
+  acts-in : Appended t₂ from (take (rowWidth * actions) acts) t₃
   acts-in =
       rw (acts-copied, is-words)
-      (pasted t₂ acts from (5 * actions) (omega (arith, head-goals .kept)) (omega arith))
+      (pasted t₂ acts from (rowWidth * actions) (omega (arith, head-goals .kept)) (omega arith))
 
   whole : Appended t₀ 0 (rowsOf c members actions goals acts) t₃
   whole = both head-goals (rw (← behind) acts-in)
@@ -97,12 +100,19 @@ module _ (c : Common) (members actions : ℕ) (few-members : members ≤ 8) (few
   pub built-of : (r end : ℕ) → end ≡ from + words → r ≡ check (take end t₃)
       → BuiltOf c members actions goals acts t₃ r
   built-of r end is-end e =
-      let acts-length : length (take (5 * actions) acts) ≡ 5 * actions =
-      length-take-le (5 * actions) acts (omega arith) in
-      let size : 0 + length (rowsOf c members actions goals acts) ≡ 5 * (1 + members + actions) =
-      omega (arith, length-append (front ++ its) (take (5 * actions) acts), behind, is-from, is-first, acts-length) in
-      let ends : end ≡ 5 * (1 + members + actions) = omega (arith, is-from, is-words) in
-      let stands : take (5 * (1 + members + actions)) t₃ ≡ rowsOf c members actions goals acts =
+      let acts-length : length (take (rowWidth * actions) acts) ≡ rowWidth * actions =
+      length-take-le (rowWidth * actions) acts (omega arith) in
+      let size : 0 + length (rowsOf c members actions goals acts) ≡ rowWidth * (1 + members + actions) =
+      omega (
+        arith,
+        length-append (front ++ its) (take (rowWidth * actions) acts),
+        behind,
+        is-from,
+        is-first,
+        acts-length,
+      ) in
+      let ends : end ≡ rowWidth * (1 + members + actions) = omega (arith, is-from, is-words) in
+      let stands : take (rowWidth * (1 + members + actions)) t₃ ≡ rowsOf c members actions goals acts =
       ap (λ (k : ℕ). take k t₃) (sym size) ∙ whole .front in
       record {
         room = omega (arith, whole .kept, long);
@@ -112,37 +122,29 @@ module _ (c : Common) (members actions : ℕ) (few-members : members ≤ 8) (few
 
 -- ---- rows of goals and of actions
 
-waits-in : {waits masks : List ℕ} {w : Reading} → WaitsIn waits masks w → w .good ≡ true → length masks ≡ 256
-    → waitsKnown 256 64 (textWords waits) ≡ true → Waits (textWords waits) masks
-waits-in {waits} {masks} x good size known =
-    let is : masks ≡ map (λ a. waitMask a (textWords waits)) (upTo 256) =
-    x .masks good (rw size known) ∙ ap (λ (k : ℕ). map (λ a. waitMask a (textWords waits)) (upTo k)) size in
-    record {
-      each = λ a h. rw is (getD-upTo (λ a. waitMask a (textWords waits)) 256 a 0 (omega (arith, size, h)));
-    }
-
 module _ {text spans masks before goals₀ acts goals : List ℕ} {o : Own}
     (n : NamedIn text spans masks before goals₀ acts goals o) (h : o .named ≡ true) where
   abbrev ms : List Pddl.Member
   ms = membersFrom text 0
 
   -- they stand at the front of their tables
-  pub goals-rows : length ms ≤ 8 → take (5 * length ms) goals ≡ goalRows (namesIn text spans) 0 ms
+  pub goals-rows : length ms ≤ 8 → take (rowWidth * length ms) goals ≡ goalRows (namesIn text spans) 0 ms
   goals-rows few =
-      let size : 0 + length (goalRows (namesIn text spans) 0 ms) ≡ 5 * length ms =
+      let size : 0 + length (goalRows (namesIn text spans) 0 ms) ≡ rowWidth * length ms =
       omega (arith, goals-length (namesIn text spans) 0 ms) in
       ap (λ (k : ℕ). take k goals) (sym size) ∙ n .goal-rows h few .front
 
-  module _ (few : o .count ≤ 256) (few-facts : length (predicatesOf ms) ≤ 64) {waits : List ℕ} {w : Reading}
-      (x : WaitsIn waits masks w) (good : w .good ≡ true) (size : length masks ≡ 256)
+  module _ (few : o .count ≤ 256) (few-facts : length (predicatesOf ms) ≤ mostFacts) {waits : List ℕ} {w : Reading}
+      (x : WaitsIn waits masks w) (good : w .good ≡ true) (size : statesIn (length masks) ≡ 256)
       (known : waitsKnown (length (actionsOf ms)) (length (predicatesOf ms)) (textWords waits) ≡ true) where
-    pub acts-rows : take (5 * o .count) acts ≡ actionRows (namesIn text spans) (textWords waits) 0 0 ms
+    pub acts-rows : take (rowWidth * o .count) acts ≡ actionRows (namesIn text spans) (textWords waits) 0 0 ms
     acts-rows =
         let its : List ℕ = actionRows (namesIn text spans) (textWords waits) 0 0 ms in
-        let length-of : 0 + length its ≡ 5 * o .count =
+        let length-of : 0 + length its ≡ rowWidth * o .count =
         omega (arith, actions-length (namesIn text spans) (textWords waits) 0 0 ms, n .number h) in
         let below : length (actionsOf ms) ≤ 256 = omega (arith, n .number h, few) in
-        let all : waitsKnown 256 64 (textWords waits) ≡ true =
-        known-more (length (actionsOf ms)) (length (predicatesOf ms)) 256 64 (textWords waits) below few-facts known in
+        let all : waitsKnown 256 mostFacts (textWords waits) ≡ true =
+        known-more (length (actionsOf ms)) (length (predicatesOf ms)) 256 mostFacts (textWords waits) below few-facts
+        known in
         ap (λ (k : ℕ). take k acts) (sym length-of)
-        ∙ n .rows h few .each (textWords waits) (waits-in x good size all) .front
+        ∙ n .rows h few .each (textWords waits) (x .masks good (rw size all)) .front

@@ -11,6 +11,7 @@ use borrow.Author.Tests.{leb-true}
 use mir.Syntax.{w64}
 use mir.Val.{Fits}
 use Rattle.semantics.specs.Base.{allOf}
+use Rattle.semantics.specs.Words.{statesIn}
 use Rattle.semantics.specs.Task.{check}
 use Rattle.semantics.specs.Text.{records, isRecord, textWords}
 use Rattle.semantics.specs.Pddl as Pddl
@@ -18,6 +19,7 @@ use Rattle.semantics.specs.Pddl.{membersOf, predicatesOf, initiallyOf, firstOf,
 use Rattle.semantics.specs.Pddl.{isIn}
 use Rattle.semantics.specs.Pddl.{wellNamed, noneTwice, waitsKnown, sameNames, knownAction, same}
 use Rattle.theory.proofs.Lists.{and-elim, not-true-false, true-not-false}
+use Rattle.pddl_theory.specs.Inner.Limits.{mostFacts}
 use Rattle.pddl_waits.specs.declared.Reading.{Reading}
 use Rattle.pddl_waits.specs.Inner.Waits.{withinOf, WaitsIn}
 use Rattle.pddl_name.specs.Inner.Table.{namesIn}
@@ -80,21 +82,21 @@ some-members n h = not-true-false (leb n 0) (λ l. h (le-zero n (leb-true n 0 l)
 -- ---- limits
 
 pub record Within (facts members actions : ℕ) : Type 0 where
-  pub facts-few : facts ≤ 64
+  pub facts-few : facts ≤ mostFacts
   pub members-few : members ≤ 8
   pub actions-few : actions ≤ 256
   pub members-fit : Fits w64 (1 + members)
   pub records-fit : Fits w64 (1 + members + actions)
 
-pub within-limits : (facts members actions : ℕ) → (leb facts 64 && leb members 8 && leb actions 256) ≡ true
+pub within-limits : (facts members actions : ℕ) → (leb facts mostFacts && leb members 8 && leb actions 256) ≡ true
     → Within facts members actions
 within-limits facts members actions l =
-    let both = and-elim (leb facts 64 && leb members 8) (leb actions 256) l in
-    let two = and-elim (leb facts 64) (leb members 8) (both .0) in
+    let both = and-elim (leb facts mostFacts && leb members 8) (leb actions 256) l in
+    let two = and-elim (leb facts mostFacts) (leb members 8) (both .0) in
     let m : members ≤ 8 = leb-true members 8 (two .1) in
     let a : actions ≤ 256 = leb-true actions 256 (both .1) in
     record {
-      facts-few = leb-true facts 64 (two .0);
+      facts-few = leb-true facts mostFacts (two .0);
       members-few = m;
       actions-few = a;
       members-fit = record { fits = omega (arith, m) };
@@ -126,7 +128,7 @@ module _ {text spans : List ℕ} {more : ℕ} {places : List ℕ} (m : Member) {
   whole : atomsFrom text (dom .predicates) ≡ namesIn text spans ++ atomsFrom text more
   whole = rw is-dom (x .whole)
 
-  all : length (atomsFrom text (dom .predicates)) ≤ 64 → atomsFrom text more ≡ []
+  all : length (atomsFrom text (dom .predicates)) ≤ mostFacts → atomsFrom text more ≡ []
   all = rw is-dom (x .all)
 
   members-number : members ≡ length (membersFrom text 0)
@@ -153,7 +155,7 @@ module _ {text spans : List ℕ} {more : ℕ} {places : List ℕ} (m : Member) {
       }
 
   module _ {masks before goals₀ acts goals : List ℕ} (o : Own) (n : NamedIn text spans masks before goals₀ acts goals o)
-      (size : length masks ≡ 256) (w : Reading) (actions : ℕ) (is-actions : actions ≡ o .count) (b : Bool)
+      (size : statesIn (length masks) ≡ 256) (w : Reading) (actions : ℕ) (is-actions : actions ≡ o .count) (b : Bool)
       (is-b : b ≡ withinOf w actions facts) where
     module _ {waits : List ℕ} (v : WaitsIn waits masks w) (good : w .good ≡ true) where
       formed : allOf (isRecord 2) (records waits) ≡ true
@@ -189,19 +191,19 @@ module _ {text spans : List ℕ} {more : ℕ} {places : List ℕ} (m : Member) {
         counted : actions ≡ length (actionsOf (membersFrom text 0))
         counted = is-actions ∙ n .number held
 
-        limits : inLimits (membersOf text) ≡ (leb facts 64 && leb members 8 && leb actions 256)
+        limits : inLimits (membersOf text) ≡ (leb facts mostFacts && leb members 8 && leb actions 256)
         unfolding inLimits
         limits = rw (is-facts, ← predicates-are, counted, x .number, ← x .from-start)
 
-        pub beyond : (table : List ℕ) → (leb facts 64 && leb members 8 && leb actions 256) ≡ false
+        pub beyond : (table : List ℕ) → (leb facts mostFacts && leb members 8 && leb actions 256) ≡ false
             → LawIn text waits table (refusedLaw 18)
         beyond table l = refused-with text waits table 17 (rw (formed, begun, well, limits, l))
 
-        module _ (l : (leb facts 64 && leb members 8 && leb actions 256) ≡ true) where
+        module _ (l : (leb facts mostFacts && leb members 8 && leb actions 256) ≡ true) where
           -- the table has all predicates
           tabled : predicatesOf (membersFrom text 0) ≡ namesIn text spans
           tabled =
-              let few : length (atomsFrom text (dom .predicates)) ≤ 64 =
+              let few : length (atomsFrom text (dom .predicates)) ≤ mostFacts =
               rw (← is-facts) (within-limits facts members actions l .facts-few) in
               predicates-are ∙ whole ∙ ap (λ (ws : List (List ℕ)). namesIn text spans ++ ws) (all few)
               ∙ append-nil (namesIn text spans)
@@ -209,7 +211,7 @@ module _ {text spans : List ℕ} {more : ℕ} {places : List ℕ} (m : Member) {
           the-words : rowsOf common members actions goals acts ≡ lawWords text waits
           unfolding wordsOf named
           the-words =
-              let few-facts : length (predicatesOf (membersFrom text 0)) ≤ 64 =
+              let few-facts : length (predicatesOf (membersFrom text 0)) ≤ mostFacts =
               rw (predicates-are, ← is-facts) (within-limits facts members actions l .facts-few) in
               let few : o .count ≤ 256 = rw (← is-actions) (within-limits facts members actions l .actions-few) in
               let few-members : length (membersFrom text 0) ≤ 8 =
@@ -247,11 +249,11 @@ module _ {text spans : List ℕ} {more : ℕ} {places : List ℕ} (m : Member) {
     law-misnamed table h = record { each = λ waits v good. misnamed v good table h }
 
     pub law-beyond : (table : List ℕ) → (o .named && b) ≡ true
-        → (leb facts 64 && leb members 8 && leb actions 256) ≡ false → LawFor text w masks table (refusedLaw 18)
+        → (leb facts mostFacts && leb members 8 && leb actions 256) ≡ false → LawFor text w masks table (refusedLaw 18)
     law-beyond table h l = record { each = λ waits v good. beyond v good h table l }
 
     pub law-built : (table : List ℕ) → (o .named && b) ≡ true
-        → (leb facts 64 && leb members 8 && leb actions 256) ≡ true → (refusal : ℕ)
+        → (leb facts mostFacts && leb members 8 && leb actions 256) ≡ true → (refusal : ℕ)
         → BuiltOf common members actions goals acts table refusal
         → LawFor text w masks table (record { refusal = refusal; records = 1 + members + actions })
     law-built table h l refusal z = record { each = λ waits v good. built v good h l table refusal z }
@@ -307,7 +309,7 @@ unknown-first [] some h = absurd (some refl)
 unknown-first (m ∷ ms) some h = rw (unknown-initial (m .its .predicates) (m .own .initially) m h)
 
 -- by the table
-pub once-tabled : {text spans : List ℕ} {c : Common} → CommonIn text spans c → c .facts ≤ 64 → (b : Bool)
+pub once-tabled : {text spans : List ℕ} {c : Common} → CommonIn text spans c → c .facts ≤ mostFacts → (b : Bool)
     → b ≡ noneTwice (namesIn text spans) → b ≡ noneTwice (atomsFrom text (c .predicates))
 once-tabled {text} {spans} {c} x h b is =
     let none : atomsFrom text (c .more) ≡ [] = x .all (rw (x .facts) at h) in

@@ -9,6 +9,7 @@ use lib.Seq.{length-take-le, take-at, paste, length-paste}
 use lib.Dec.{ltb}
 use borrow.Author.Tests.{lt-ltb, le-ltb}
 use Rattle.semantics.specs.Base.{padded, zeroed}
+use Rattle.semantics.specs.Task.{rowWidth}
 use Rattle.semantics.specs.Pddl.{readPddl}
 use Rattle.text.specs.declared.TextRead.the-variants.{Refused, Gives}
 use Rattle.text.specs.Post.{reading}
@@ -34,13 +35,13 @@ module _ {text waits table : List ℕ} (words : List ℕ) (l : Law) (x : LawIn t
     accepted : lawRefusal text waits ≡ 0
     accepted = sym (x .refusal) ∙ none
 
-    size : length (lawWords text waits) ≡ 5 * l .records
-    size = ap length (sym (x .words none)) ∙ length-take-le (5 * l .records) table (x .room)
+    size : length (lawWords text waits) ≡ rowWidth * l .records
+    size = ap length (sym (x .words none)) ∙ length-take-le (rowWidth * l .records) table (x .room)
 
-    room : (n : ℕ) → n ≡ 5 * l .records → n ≤ length table
+    room : (n : ℕ) → n ≡ rowWidth * l .records → n ≤ length table
     room n q = rw q (x .room)
 
-    pub read-short : (n : ℕ) → n ≡ 5 * l .records → length words < n → reading (Refused 14) words
+    pub read-short : (n : ℕ) → n ≡ rowWidth * l .records → length words < n → reading (Refused 14) words
         ≡ readPddl text waits words
     unfolding readPddl
     read-short n q h =
@@ -48,7 +49,7 @@ module _ {text waits table : List ℕ} (words : List ℕ) (l : Law) (x : LawIn t
         lt-ltb (length words) (length (lawWords text waits)) (omega (arith, size)) in
         rw (accepted, s)
 
-    pub read-whole : (n : ℕ) → n ≡ 5 * l .records → n ≤ length words → (copied out : List ℕ)
+    pub read-whole : (n : ℕ) → n ≡ rowWidth * l .records → n ≤ length words → (copied out : List ℕ)
         → copied ≡ paste words 0 table n
         → out ≡ take n copied ++ replicate (length copied - n) 0
         → reading (Gives (l .records)) out ≡ readPddl text waits words

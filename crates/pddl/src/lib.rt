@@ -3,23 +3,37 @@
 ghost use mathlib.Core.Path.{_≡_};
 ghost use Prim.Native.Nat.{_*_, _≤_};
 ghost use lib.ListN.{length};
+ghost use Rattle.semantics.specs.Words.{statesIn};
+ghost use Rattle.semantics.specs.Task.{rowWidth};
 ghost use Rattle.semantics.specs.Pddl.{noneTwice, readPddl};
 ghost use Rattle.text.specs.Post.{reading};
+ghost use Rattle.pddl_theory.specs.Inner.Limits.{mostFacts};
 ghost use Rattle.pddl_form.specs.Inner.Place.{atomsFrom};
 ghost use Rattle.pddl_named.specs.Inner.Common.{CommonIn};
-ghost use Rattle.pddl.specs.Inner.Law.{Begun, Naming, NamedIn, BuiltOf, LawIn, LawFor};
-
-// Words in a row.
-const ROW: usize = 5;
+ghost use Rattle.pddl.specs.Inner.Law.{mostWords, Begun, Naming, NamedIn};
+ghost use Rattle.pddl.specs.Inner.Law.{BuiltOf, LawIn, LawFor};
 
 // Numbers in an entry of the table of members.
 const ENTRY: usize = 10;
 
-const MOST_FACTS: usize = 64;
-
 const MOST_MEMBERS: usize = 8;
 
 const MOST_ACTIONS: usize = 256;
+
+// The words of the most goal rows.
+const GOALS: usize = pddl_words::ROW * MOST_MEMBERS;
+
+// The words of the most rows of actions.
+const ACTS: usize = pddl_words::ROW * MOST_ACTIONS;
+
+// The words of the longest task.
+const TASK: usize = pddl_words::ROW + GOALS + ACTS;
+
+// The words of a mask for each action.
+const MASKS: usize = mask::WORDS * MOST_ACTIONS;
+
+// The offsets of the most predicates, two for each.
+const SPANS: usize = 2 * pddl_words::MOST_FACTS;
 
 // What is read before the word slice is looked at: the first refusal, 0 where there is none, and
 // then the number of the task's rows.
@@ -33,7 +47,7 @@ fn predicates_once(text: &[u8], spans: &[usize], c: pddl_named::Common) -> bool
     requires { ⌜ CommonIn (now text) (now spans) c ⌝ }
     ensures { λ r. ⌜ r ≡ noneTwice (atomsFrom (now (text .entry)) (c .predicates)) ⌝ }
 {
-    if c.facts <= MOST_FACTS {
+    if c.facts <= pddl_words::MOST_FACTS {
         pddl_list::distinct_in(text, spans)
     } else {
         pddl_list::distinct(text, c.predicates)
@@ -53,8 +67,9 @@ fn names_hold(
     goals: &mut [u64],
 ) -> pddl_acts::Own
     requires { ⌜ Naming (now text) (now spans) (now places) c known ⌝ }
-    requires { ⌜ (5 * 256 ≤ length (now acts)) × (256 ≤ length (now masks)) ⌝ }
-    requires { ⌜ 5 * 8 ≤ length (now goals) ⌝ }
+    requires { ⌜ (rowWidth * 256 ≤ length (now acts))
+        × (256 ≤ statesIn (length (now masks))) ⌝ }
+    requires { ⌜ rowWidth * 8 ≤ length (now goals) ⌝ }
     ensures { λ r. ⌜ NamedIn (now (text .entry)) (now (spans .entry)) (now (masks .entry))
         (now (acts .entry)) (now (goals .entry)) (now (acts .exit)) (now (goals .exit)) r ⌝ }
 {
@@ -82,25 +97,24 @@ fn build(
     acts: &[u64],
     table: &mut [u64],
 ) -> u64
-    requires { ⌜ (members ≤ 8) × (actions ≤ 256) × (c .facts ≤ 64) ⌝ }
-    requires { ⌜ (5 * 8 ≤ length (now goals)) × (5 * 256 ≤ length (now acts))
-        × (1325 ≤ length (now table)) ⌝ }
+    requires { ⌜ (members ≤ 8) × (actions ≤ 256) × (c .facts ≤ mostFacts) ⌝ }
+    requires { ⌜ (rowWidth * 8 ≤ length (now goals)) × (rowWidth * 256 ≤ length (now acts))
+        × (mostWords ≤ length (now table)) ⌝ }
     ensures { λ r. ⌜ BuiltOf c members actions (now (goals .entry)) (now (acts .entry))
         (now (table .exit)) r ⌝ }
 {
-    pddl_words::put_row(
+    let initial = c.mask;
+    pddl_words::put_head(
         table,
-        0,
         c.facts as u64,
         members as u64,
         actions as u64,
-        c.mask,
-        0,
+        initial,
     );
-    let first = ROW * members;
-    rows::store(table, first, ROW, goals);
-    let from = ROW + first;
-    let words = ROW * actions;
+    let first = pddl_words::ROW * members;
+    rows::store(table, first, pddl_words::ROW, goals);
+    let from = pddl_words::ROW + first;
+    let words = pddl_words::ROW * actions;
     rows::store(table, words, from, acts);
     let end = from + words;
     task::check(&table[..end])
@@ -120,7 +134,7 @@ fn named_law(
     table: &mut [u64],
 ) -> Law
     requires { ⌜ Begun (now text) (now spans) more (now places) m members ⌝ }
-    requires { ⌜ (length (now masks) ≡ 256) × (1325 ≤ length (now table)) ⌝ }
+    requires { ⌜ (statesIn (length (now masks)) ≡ 256) × (mostWords ≤ length (now table)) ⌝ }
     ensures { λ r. ⌜ LawFor (now (text .entry)) w (now (masks .entry)) (now (table .exit)) r ⌝ }
 {
     let domain = m.domain;
@@ -129,15 +143,16 @@ fn named_law(
     let initially = problem.initially;
     let facts = pddl_list::count(text, predicates);
     let start = pddl_named::facts_from(text, spans, more, initially);
+    let mask = start.mask;
     let c = pddl_named::Common {
         predicates,
         initially,
         facts,
         more,
-        mask: start.mask,
+        mask,
     };
-    let mut acts = [0; 1280];
-    let mut goals = [0; 40];
+    let mut acts = [0; ACTS];
+    let mut goals = [0; GOALS];
     let own = names_hold(
         text,
         spans,
@@ -150,7 +165,10 @@ fn named_law(
     );
     let actions = own.count;
     if own.named & pddl_waits::within(w, actions, facts) {
-        if (facts <= MOST_FACTS) & (members <= MOST_MEMBERS) & (actions <= MOST_ACTIONS) {
+        if (facts <= pddl_words::MOST_FACTS)
+            & (members <= MOST_MEMBERS)
+            & (actions <= MOST_ACTIONS)
+        {
             let refusal = build(c, members, actions, &goals, &acts, table);
             Law {
                 refusal,
@@ -172,10 +190,10 @@ fn named_law(
 
 // The law of a text, its rows at the front of the table.
 fn law_in(text: &[u8], waits: &[u8], table: &mut [u64]) -> Law
-    requires { ⌜ 1325 ≤ length (now table) ⌝ }
+    requires { ⌜ mostWords ≤ length (now table) ⌝ }
     ensures { λ r. ⌜ LawIn (now (text .entry)) (now (waits .entry)) (now (table .exit)) r ⌝ }
 {
-    let mut masks = [0; 256];
+    let mut masks = [0; MASKS];
     let w = pddl_waits::read(waits, &mut masks);
     if w.good {
         let mut places = [0; 80];
@@ -190,7 +208,7 @@ fn law_in(text: &[u8], waits: &[u8], table: &mut [u64]) -> Law
             let kept = ENTRY * k.kept;
             let m = pddl_members::member_in(text, &places[..kept], 0);
             let domain = m.domain;
-            let mut spans = [0; 128];
+            let mut spans = [0; SPANS];
             let t = pddl_list::fill(text, domain.predicates, &mut spans);
             let end = 2 * t.count;
             named_law(
@@ -219,11 +237,11 @@ pub fn read(text: &[u8], waits: &[u8], words: &mut [u64]) -> text::TextRead
     ensures { λ r. ⌜ reading r (now (words .exit))
         ≡ readPddl (now (text .entry)) (now (waits .entry)) (now (words .entry)) ⌝ }
 {
-    let mut table = [0; 1325];
+    let mut table = [0; TASK];
     let l = law_in(text, waits, &mut table);
     let refusal = l.refusal;
     if refusal == 0 {
-        let end = ROW * l.records;
+        let end = pddl_words::ROW * l.records;
         if words.len() < end {
             text::TextRead::Refused(14)
         } else {

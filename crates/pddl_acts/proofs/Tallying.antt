@@ -5,7 +5,11 @@ use mathlib.Core.List.{List, _++_, append-nil}
 use Prim.Native.Nat.{ℕ, suc, _+_, _*_, _≤_, _<_}
 use native.Mathlib.Nat.{add-zero}
 use native.Mathlib.Omega.{arith}
-use lib.ListN.{length, take, getD, set, length-set}
+use lib.ListN.{length, take, set, length-set}
+use Rattle.semantics.specs.Words.{rowWords, statesIn}
+use Rattle.semantics.specs.Task.{rowWidth}
+use Rattle.mask.specs.Number.{number}
+use Rattle.mask.specs.Inner.Stored.{maskAt}
 use Rattle.semantics.specs.Pddl.{knownAction, ownRows, noneTwice}
 use Rattle.pddl_theory.proofs.Turns.{Numbered, numbered-begin, numbered-below, numbered-on, numbered-end}
 use Rattle.pddl_theory.proofs.Turns.{Held, held-begin, held-on, held-end}
@@ -16,7 +20,7 @@ use Rattle.pddl_list.proofs.Filling.{Filling, filling-begin, filling-next}
 use Rattle.pddl_section.specs.Inner.Section.{Acts, Masked, actionsFrom}
 use Rattle.pddl_section.specs.declared.Act.{Act}
 use Rattle.pddl_section.proofs.Lists.{actions-next, actions-none}
-use Rattle.pddl_theory.specs.Inner.Appended.{row}
+use Rattle.pddl_theory.specs.Inner.Appended.{Appended}
 use Rattle.pddl_words.specs.Inner.Built.{Waits}
 use Rattle.pddl_theory.proofs.Appending.{Still, still-begin, still-on, still-end}
 use Rattle.pddl_acts.specs.declared.Tally.{Tally}
@@ -36,16 +40,21 @@ pub noted-room : (names : List ℕ) (n first : ℕ) → 2 * 256 ≤ length names
     → 2 * n + 1 < length (set names (2 * n) first)
 noted-room names n first h l = omega (arith, length-set names (2 * n) first)
 
-pub placed-full : (masks table : List ℕ) (number owner : ℕ) (a : Act) → 256 ≤ number
-    → Placed masks table number owner a table
-placed-full masks table number owner a h = record { stored = λ l. absurd (omega (arith, l)) }
+pub placed-in : (masks table after : List ℕ) (k owner : ℕ) (a : Act) (w : ℕ) → w ≡ maskAt masks k
+    → Appended table (rowWidth * k)
+    (rowWords owner (number (a .needs)) w (number (a .adds)) (number (a .dels))) after
+    → Placed masks table k owner a after
+placed-in masks table after k owner a w e p = record { stored = λ _. rw (← e) p }
+
+pub placed-full : (masks table : List ℕ) (k owner : ℕ) (a : Act) → 256 ≤ k → Placed masks table k owner a table
+placed-full masks table k owner a h = record { stored = λ l. absurd (omega (arith, l)) }
 
 -- ---- the pass
 
 -- `count` actions stand before i; their names and rows are in the tables, if there is room for those of all
 pub record Tallying (text spans : List ℕ) (more : ℕ) (masks table₀ names₀ : List ℕ) (start owner first : ℕ)
     (table names : List ℕ) (count : ℕ) (known : Bool) (i : ℕ) : Type 0 where
-  few-masks : 256 ≤ length masks
+  few-masks : 256 ≤ statesIn (length masks)
   pub table-kept : length table ≡ length table₀
   pub names-kept : length names ≡ length names₀
   pub numbered : Numbered (actionsFrom text) start count i
@@ -53,11 +62,11 @@ pub record Tallying (text spans : List ℕ) (more : ℕ) (masks table₀ names�
   pub named : length (actionsFrom text start) ≤ 256
       → Filling 256 (calledFrom text) text start names₀ names count i
   pub rows : first + length (actionsFrom text start) ≤ 256 → (waits : List ℕ) → Waits waits masks
-      → Still table₀ (5 * first) (ownFrom text spans waits owner first start) table (5 * (first + count))
+      → Still table₀ (rowWidth * first) (ownFrom text spans waits owner first start) table (rowWidth * (first + count))
       (ownFrom text spans waits owner (first + count) i)
 
 pub tallying-begin : (text spans : List ℕ) (more : ℕ) (masks table names : List ℕ) (start owner first : ℕ)
-    → 256 ≤ length masks → 2 * 256 ≤ length names
+    → 256 ≤ statesIn (length masks) → 2 * 256 ≤ length names
     → Tallying text spans more masks table names start owner first table names 0 true start
 tallying-begin text spans more masks table names start owner first few h =
     record {
@@ -68,7 +77,7 @@ tallying-begin text spans more masks table names start owner first few h =
       facts = held-begin (knownAction (namesIn text spans ++ atomsFrom text more)) (actionsFrom text) start;
       named = λ _. filling-begin 256 (calledFrom text) text start names h;
       rows = λ _ waits w. rw (add-zero first)
-          (still-begin table (5 * first) (ownFrom text spans waits owner first start));
+          (still-begin table (rowWidth * first) (ownFrom text spans waits owner first start));
     }
 
 module _ {text spans : List ℕ} {more : ℕ} {masks table₀ names₀ : List ℕ} {start owner first : ℕ}
@@ -99,14 +108,15 @@ module _ {text spans : List ℕ} {more : ℕ} {masks table₀ names₀ : List �
               (called-next x n e));
           rows = λ h waits w.
               let below : first + count < 256 = omega (arith, h, tallying-below) in
-              let this : List ℕ = row owner (a .needs) (getD masks (first + count) 0) (a .adds) (a .dels) in
-              let number : first + (count + 1) ≡ suc (first + count) = omega arith in
+              let this : List ℕ =
+              rowWords owner (number (a .needs)) (maskAt masks (first + count)) (number (a .adds)) (number (a .dels)) in
+              let next : first + (count + 1) ≡ suc (first + count) = omega arith in
               let is : ownFrom text spans waits owner (first + count) i
               ≡ this ++ ownFrom text spans waits owner (first + (count + 1)) n =
               ap (ownRows (namesIn text spans) waits owner (first + count)) (actions-next x n e)
-              ∙ rw (number, y .needs, y .adds, y .dels, w .each (first + count) (omega (arith, below, g .few-masks))) in
+              ∙ rw (next, y .needs, y .adds, y .dels, w .each (first + count) (omega (arith, below, g .few-masks))) in
               still-on (g .rows h waits w) this (ownFrom text spans waits owner (first + (count + 1)) n) placed
-              (5 * (first + (count + 1))) is (put .stored below) (omega arith);
+              (rowWidth * (first + (count + 1))) is (put .stored below) (omega arith);
         }
 
   module _ (e : a .place ≡ Outside) where

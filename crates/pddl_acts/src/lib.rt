@@ -3,6 +3,8 @@
 ghost use mathlib.Core.Path.{_≡_};
 ghost use Prim.Native.Nat.{_+_, _*_, _≤_};
 ghost use lib.ListN.{length};
+ghost use Rattle.semantics.specs.Words.{statesIn};
+ghost use Rattle.semantics.specs.Task.{rowWidth};
 ghost use Rattle.semantics.specs.Pddl.{isIn, noneTwice};
 ghost use Rattle.pddl_theory.specs.Inner.Place.{span};
 ghost use Rattle.pddl_formula.specs.Inner.Formula.{Ready};
@@ -23,9 +25,6 @@ pub struct Own {
 }
 
 const MOST_ACTIONS: usize = 256;
-
-// Words in a row.
-const ROW: usize = 5;
 
 // Is the word s..e the name of one of the actions from an offset on?
 fn called(text: &[u8], at: usize, s: usize, e: usize) -> bool
@@ -91,14 +90,18 @@ fn note(names: &mut [usize], n: usize, first: usize, end: usize)
 
 // An action's row goes to its place in the table, if there is room for it.
 fn place(table: &mut [u64], waits: &[u64], number: usize, owner: u64, a: pddl_section::Act)
-    requires { ⌜ (5 * 256 ≤ length (now table)) × (256 ≤ length (now waits)) ⌝ }
+    requires { ⌜ (rowWidth * 256 ≤ length (now table))
+        × (256 ≤ statesIn (length (now waits))) ⌝ }
     ensures { λ _. ⌜ Placed (now (waits .entry)) (now (table .entry)) number owner a
         (now (table .exit)) ⌝ }
 {
     if number < MOST_ACTIONS {
-        let at = ROW * number;
-        let wait = waits[number];
-        pddl_words::put_row(table, at, owner, a.needs, wait, a.adds, a.dels);
+        let at = pddl_words::ROW * number;
+        let needs = a.needs;
+        let wait = mask::load(waits, number);
+        let adds = a.adds;
+        let dels = a.dels;
+        pddl_words::put_row(table, at, owner, needs, wait, adds, dels);
     }
 }
 
@@ -116,7 +119,8 @@ fn gather(
     first: usize,
 ) -> Tally
     requires { ⌜ Ready (now text) (now spans) ⌝ }
-    requires { ⌜ (5 * 256 ≤ length (now table)) × (256 ≤ length (now waits)) ⌝ }
+    requires { ⌜ (rowWidth * 256 ≤ length (now table))
+        × (256 ≤ statesIn (length (now waits))) ⌝ }
     requires { ⌜ 2 * 256 ≤ length (now names) ⌝ }
     requires { ⌜ first + length (actionsFrom (now text) start) ≤ length (now text) ⌝ }
     ensures { λ r. ⌜ Tallied (now (text .entry)) (now (spans .entry)) more
@@ -170,7 +174,8 @@ pub fn own_actions(
     first: usize,
 ) -> Own
     requires { ⌜ Ready (now text) (now spans) ⌝ }
-    requires { ⌜ (5 * 256 ≤ length (now table)) × (256 ≤ length (now waits)) ⌝ }
+    requires { ⌜ (rowWidth * 256 ≤ length (now table))
+        × (256 ≤ statesIn (length (now waits))) ⌝ }
     requires { ⌜ first + length (actionsFrom (now text) start) ≤ length (now text) ⌝ }
     ensures { λ r. ⌜ OwnIn (now (text .entry)) (now (spans .entry)) more
         (now (waits .entry)) (now (table .entry)) start owner first (now (table .exit)) r ⌝ }

@@ -9,6 +9,8 @@ use lib.Bits.{bitOr}
 use Rattle.semantics.specs.Pddl as Pddl
 use Rattle.semantics.specs.Pddl.{Token, opening, closing, word, sameToken, small, same, and′, not′}
 use Rattle.semantics.specs.Pddl.{Parsed, outside, parsed, _then_, many, expect, Literal, depth}
+use Rattle.mask.specs.declared.Mask.{Mask}
+use Rattle.mask.specs.Number.{number}
 use Rattle.pddl_theory.specs.Inner.Place.{rest, span, leaves, items}
 use Rattle.pddl_theory.proofs.Shorter.{formula-shorter}
 use Rattle.pddl_theory.proofs.Chain.{items-on, items-out, leaves-on, leaves-out, list-parts}
@@ -20,7 +22,7 @@ use Rattle.pddl_form.specs.declared.Place.{Place}
 use Rattle.pddl_form.specs.declared.Place.the-variants.{At, Outside}
 use Rattle.pddl_form.specs.Inner.Place.{left, Opens}
 use Rattle.pddl_formula.specs.declared.Literals.{Literals}
-use Rattle.pddl_formula.specs.Inner.Formula.{nothing, conjuncts}
+use Rattle.pddl_formula.specs.Inner.Formula.{Nothing, conjuncts}
 use Rattle.pddl_formula.specs.Inner.Formula.{LiteralAt, NegationAt, FormulaAt, ListAt, Goes}
 use Rattle.pddl_formula.proofs.Openings.{none-read, opened, not-opened, then-opening, then-closing, then-stray}
 use Rattle.pddl_formula.proofs.Openings.{then-end, and-deep, and-read, not-read, not-barred, plain}
@@ -54,7 +56,7 @@ module _ (text spans : List ℕ) (more : ℕ) (negations : Bool) (d at : ℕ) (t
   begun ts e = ap (λ (us : List Token). Pddl.formula negations d (opening ∷ us)) e
 
   -- no word
-  module _ (q : r ≡ nothing) where
+  module _ (q : Nothing r) where
     none-by : (ts : List Token) → rest text at ≡ ts → Pddl.formula negations d (opening ∷ ts) ≡ outside
         → FormulaAt text spans more negations d at r
     none-by ts e o = record { means = means-none whole (begun ts e ∙ o) r q }
@@ -86,7 +88,7 @@ module _ (text spans : List ℕ) (more : ℕ) (negations : Bool) (d at : ℕ) (t
       and-first : whole ≡ Pddl.formula negations d (opening ∷ word and′ ∷ rest text e)
       and-first = first ∙ ap (λ (v : List ℕ). Pddl.formula negations d (opening ∷ word v ∷ rest text e)) spelt-and
 
-      pub deep-and : d ≡ 0 → r ≡ nothing → FormulaAt text spans more negations d at r
+      pub deep-and : d ≡ 0 → Nothing r → FormulaAt text spans more negations d at r
       deep-and z q =
           record { means = means-none whole (and-first ∙ rw z (and-deep negations (rest text e))) r q }
 
@@ -116,7 +118,7 @@ module _ (text spans : List ℕ) (more : ℕ) (negations : Bool) (d at : ℕ) (t
               means = means-from _ whole r (l .means) low (not-first ∙ rw z (not-read d (rest text e)));
             }
 
-        pub barred-not : negations ≡ false → r ≡ nothing → FormulaAt text spans more negations d at r
+        pub barred-not : negations ≡ false → Nothing r → FormulaAt text spans more negations d at r
         barred-not z q =
             record { means = means-none whole (not-first ∙ rw z (not-barred d (rest text e))) r q }
 
@@ -133,23 +135,23 @@ module _ (text spans : List ℕ) (more : ℕ) (negations : Bool) (d at : ℕ) (t
 -- ---- a list of formulas
 
 -- the literals of the formulas up to i, with their masks; the others of the list stand from i on
-pub record Listing (text spans : List ℕ) (more : ℕ) (negations : Bool) (d at adds dels : ℕ) (names : Bool) (i : ℕ)
-    : Type 0 where
+pub record Listing (text spans : List ℕ) (more : ℕ) (negations : Bool) (d at : ℕ) (adds dels : Mask) (names : Bool)
+    (i : ℕ) : Type 0 where
   pub done : List Literal
   pub low : at ≤ i
-  pub tells : Tells text spans more done adds dels names
+  pub tells : Tells text spans more done (number adds) (number dels) names
   pub parts : flatten (items (many (Pddl.formula negations d) (rest text at)))
       ≡ done ++ flatten (items (many (Pddl.formula negations d) (rest text i)))
   pub behind : leaves (many (Pddl.formula negations d) (rest text at))
       ≡ leaves (many (Pddl.formula negations d) (rest text i))
 
-pub list-begin : (text spans : List ℕ) (more : ℕ) (negations : Bool) (d at : ℕ)
-    → Listing text spans more negations d at 0 0 true at
-list-begin text spans more negations d at =
-    record { done = []; low = omega arith; tells = tells-none text spans more; parts = refl; behind = refl }
+pub list-begin : (text spans : List ℕ) (more : ℕ) (negations : Bool) (d at : ℕ) (a d′ : Mask)
+    → number a ≡ 0 → number d′ ≡ 0 → Listing text spans more negations d at a d′ true at
+list-begin text spans more negations d at a d′ p q =
+    record { done = []; low = omega arith; tells = tells-none text spans more _ _ p q; parts = refl; behind = refl }
 
-module _ {text spans : List ℕ} {more : ℕ} {negations : Bool} {d at adds dels : ℕ} {names : Bool} {i : ℕ}
-    (g : Listing text spans more negations d at adds dels names i) (t : T.Token) (x : Next text i t) where
+module _ {text spans : List ℕ} {more : ℕ} {negations : Bool} {d at : ℕ} {adds dels : Mask} {names : Bool}
+    {i : ℕ} (g : Listing text spans more negations d at adds dels names i) (t : T.Token) (x : Next text i t) where
   abbrev one : List Token → Parsed (List Literal)
   one = Pddl.formula negations d
 
@@ -173,26 +175,26 @@ module _ {text spans : List ℕ} {more : ℕ} {negations : Bool} {d at adds dels
         list-parts (many one (rest text at)) (λ ps ts. expect (closing ∷ []) ts then λ _ ts. parsed (flatten ps) ts)
         ∙ rw (all-behind, all-parts, e)
 
-    list-none : expect (closing ∷ []) (rest text i) ≡ outside → (r : Literals) → r ≡ nothing
+    list-none : expect (closing ∷ []) (rest text i) ≡ outside → (r : Literals) → Nothing r
         → ListAt text spans more negations d at r
     list-none e r q =
         record { means = means-none (conjuncts negations d (rest text at)) (list-left outside e) r q }
 
   -- no formula and no end of the list
   neither : (ts : List Token) → rest text i ≡ ts → expect (opening ∷ []) ts ≡ outside
-      → expect (closing ∷ []) ts ≡ outside → (r : Literals) → r ≡ nothing → ListAt text spans more negations d at r
+      → expect (closing ∷ []) ts ≡ outside → (r : Literals) → Nothing r → ListAt text spans more negations d at r
   neither ts e o c r q =
       list-none (ap one e ∙ not-opened negations d ts o) (ap (expect (closing ∷ [])) e ∙ c) r q
 
-  pub list-word : (s e : ℕ) → t ≡ Word s e → (r : Literals) → r ≡ nothing → ListAt text spans more negations d at r
+  pub list-word : (s e : ℕ) → t ≡ Word s e → (r : Literals) → Nothing r → ListAt text spans more negations d at r
   unfolding expect sameToken
   list-word s e q r z = neither _ (token (Word s e) q .same) refl refl r z
 
-  pub list-stray : t ≡ Stray → (r : Literals) → r ≡ nothing → ListAt text spans more negations d at r
+  pub list-stray : t ≡ Stray → (r : Literals) → Nothing r → ListAt text spans more negations d at r
   unfolding expect sameToken
   list-stray q r z = neither _ (token Stray q .same) refl refl r z
 
-  pub list-cut : t ≡ End → (r : Literals) → r ≡ nothing → ListAt text spans more negations d at r
+  pub list-cut : t ≡ End → (r : Literals) → Nothing r → ListAt text spans more negations d at r
   unfolding expect sameToken
   list-cut q r z = neither _ (token End q .same) refl refl r z
 
@@ -215,7 +217,7 @@ module _ {text spans : List ℕ} {more : ℕ} {negations : Bool} {d at adds dels
     begins : rest text i ≡ opening ∷ rest text n
     begins = token (Open n) q .same
 
-    pub list-out : f .place ≡ Outside → (r : Literals) → r ≡ nothing → ListAt text spans more negations d at r
+    pub list-out : f .place ≡ Outside → (r : Literals) → Nothing r → ListAt text spans more negations d at r
     unfolding expect sameToken
     list-out e r z =
         list-none (ap one begins ∙ none-of (one (opening ∷ rest text n)) (y .means) e)
@@ -231,10 +233,11 @@ module _ {text spans : List ℕ} {more : ℕ} {negations : Bool} {d at adds dels
       pub list-less : length text - k < length text - i
       list-less = omega (arith, onward .0, onward .1)
 
-      pub list-on :
-          Listing text spans more negations d at (bitOr adds (f .adds)) (bitOr dels (f .dels)) (names && f .known) k
+      pub list-on : (a d′ : Mask) → number a ≡ bitOr (number adds) (number (f .adds))
+          → number d′ ≡ bitOr (number dels) (number (f .dels))
+          → Listing text spans more negations d at a d′ (names && f .known) k
       unfolding flatten
-      list-on =
+      list-on a d′ is-a is-d =
           let l : Read text spans more k (one (opening ∷ rest text n)) f
           = read-of (one (opening ∷ rest text n)) (y .means) k e in
           let is : one (rest text i) ≡ parsed (l .literals) (rest text k) = ap one begins ∙ l .is in
@@ -242,8 +245,9 @@ module _ {text spans : List ℕ} {more : ℕ} {negations : Bool} {d at adds dels
           record {
             done = g .done ++ l .literals;
             low = omega (arith, g .low, onward .0);
-            tells = tells-append text spans more (g .done) (l .literals) adds dels (f .adds) (f .dels) names (f .known)
-                (g .tells) (l .tells);
+            tells = rw (is-a, is-d)
+                (tells-append text spans more (g .done) (l .literals) (number adds) (number dels) (number (f .adds))
+                (number (f .dels)) names (f .known) (g .tells) (l .tells));
             parts = g .parts
                 ∙ ap (λ (ps : List (List Literal)). g .done ++ flatten ps)
                 (items-on one (formula-shorter negations d) (rest text i) (l .literals) (rest text k) is)
@@ -267,7 +271,7 @@ module _ {text spans : List ℕ} {more : ℕ} {negations : Bool} where
             (ap (Pddl.formula negations depth) (opened (rest text m) (rest text n) o));
       }
 
-  pub goes-out : (p a : Place) → Opens text p a → a ≡ Outside → (r : Literals) → r ≡ nothing
+  pub goes-out : (p a : Place) → Opens text p a → a ≡ Outside → (r : Literals) → Nothing r
       → Goes text spans more negations p r
   goes-out Outside a x e r q = record { means = means-none outside refl r q }
   goes-out (At m) a x e r q =

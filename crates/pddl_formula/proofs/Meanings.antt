@@ -8,6 +8,8 @@ use lib.ListN.{length}
 use lib.Bits.{bitOr, or-add-and, and-le-r}
 use Rattle.semantics.specs.Base.{allOf, collect}
 use Rattle.semantics.specs.Pddl.{Parsed, outside, parsed, Literal, known, isIn, bitFrom, maskOf, factsOf}
+use Rattle.mask.specs.declared.Mask.{Mask}
+use Rattle.mask.specs.Number.{number}
 use Rattle.pddl_theory.specs.Inner.Place.{rest}
 use Rattle.pddl_theory.proofs.Sets.{known-append, factsOf-append, maskOf-append}
 use Rattle.pddl_name.specs.Inner.Table.{namesIn}
@@ -15,7 +17,7 @@ use Rattle.pddl_form.specs.declared.Place.{Place}
 use Rattle.pddl_form.specs.declared.Place.the-variants.{At, Outside}
 use Rattle.pddl_form.specs.Inner.Place.{left, atomsFrom, Behind}
 use Rattle.pddl_formula.specs.declared.Literals.{Literals}
-use Rattle.pddl_formula.specs.Inner.Formula.{nothing, Means}
+use Rattle.pddl_formula.specs.Inner.Formula.{Nothing, Means}
 use Rattle.pddl_formula.proofs.Openings.{none-read, left-same}
 
 -- ---- literals as masks
@@ -30,9 +32,9 @@ module _ (text spans : List ℕ) (more : ℕ) where
     pub dels : d ≡ maskOf (namesIn text spans) (factsOf true ls)
     pub names : k ≡ known (namesIn text spans ++ atomsFrom text more) ls
 
-  pub tells-none : Tells [] 0 0 true
+  pub tells-none : (a d : ℕ) → a ≡ 0 → d ≡ 0 → Tells [] a d true
   unfolding maskOf collect allOf
-  tells-none = record { adds = refl; dels = refl; names = refl }
+  tells-none a d p q = record { adds = p; dels = q; names = refl }
 
   mask-append : (b : Bool) (xs ys : List Literal) → maskOf (namesIn text spans) (factsOf b (xs ++ ys))
       ≡ bitOr (maskOf (namesIn text spans) (factsOf b xs)) (maskOf (namesIn text spans) (factsOf b ys))
@@ -49,37 +51,46 @@ module _ (text spans : List ℕ) (more : ℕ) where
         names = rw (x .names, y .names) (sym (known-append (namesIn text spans ++ atomsFrom text more) xs ys));
       }
 
-  module _ (w : List ℕ) (b : ℕ) (k : Bool) (e : b ≡ bitFrom 1 (namesIn text spans) w)
+  module _ (w : List ℕ) (b z : ℕ) (none : z ≡ 0) (k : Bool) (e : b ≡ bitFrom 1 (namesIn text spans) w)
       (q : k ≡ isIn (namesIn text spans ++ atomsFrom text more) w) where
-    pub tells-added : Tells (record { fact = w; negated = false } ∷ []) b 0 k
+    pub tells-added : Tells (record { fact = w; negated = false } ∷ []) b z k
     unfolding maskOf collect allOf
     tells-added =
-        record { adds = e ∙ sym (or-zero _); dels = refl; names = q ∙ sym (and-true _) }
+        record { adds = e ∙ sym (or-zero _); dels = none; names = q ∙ sym (and-true _) }
 
-    pub tells-deleted : Tells (record { fact = w; negated = true } ∷ []) 0 b k
+    pub tells-deleted : Tells (record { fact = w; negated = true } ∷ []) z b k
     unfolding maskOf collect allOf
     tells-deleted =
-        record { adds = refl; dels = e ∙ sym (or-zero _); names = q ∙ sym (and-true _) }
+        record { adds = none; dels = e ∙ sym (or-zero _); names = q ∙ sym (and-true _) }
 
 -- ---- answers
 
 module _ {text spans : List ℕ} {more : ℕ} {p : Place} where
-  pub means-read : (reading : Parsed (List Literal)) (ls : List Literal) (n a d : ℕ) (k : Bool)
-      → reading ≡ parsed ls (rest text n) → Behind (length text) p (At n) → Tells text spans more ls a d k
+  pub means-read : (reading : Parsed (List Literal)) (ls : List Literal) (n : ℕ) (a d : Mask) (k : Bool)
+      → reading ≡ parsed ls (rest text n) → Behind (length text) p (At n)
+      → Tells text spans more ls (number a) (number d) k
       → Means text spans more p reading (record { adds = a; dels = d; known = k; place = At n })
   means-read reading ls n a d k e h t =
       rw e (record { place = refl; onward = h; adds = t .adds; dels = t .dels; names = t .names })
 
-  pub means-none : (reading : Parsed (List Literal)) → reading ≡ outside → (r : Literals) → r ≡ nothing
+  pub means-none : (reading : Parsed (List Literal)) → reading ≡ outside → (r : Literals) → Nothing r
       → Means text spans more p reading r
   unfolding maskOf collect allOf
-  means-none reading e r q = rw (e, q) (record { place = refl; onward = tt; adds = refl; dels = refl; names = refl })
+  means-none reading e r q =
+      rw e
+      (record {
+        place = ap (left text) (q .no-place);
+        onward = rw (q .no-place) tt;
+        adds = q .no-adds;
+        dels = q .no-dels;
+        names = q .all-known;
+      })
 
 -- the literals of an answer that has a place
 pub record Read (text spans : List ℕ) (more n : ℕ) (reading : Parsed (List Literal)) (r : Literals) : Type 0 where
   pub literals : List Literal
   pub is : reading ≡ parsed literals (rest text n)
-  pub tells : Tells text spans more literals (r .adds) (r .dels) (r .known)
+  pub tells : Tells text spans more literals (number (r .adds)) (number (r .dels)) (r .known)
 
 module _ {text spans : List ℕ} {more : ℕ} {p : Place} {r : Literals} where
   pub read-of : (reading : Parsed (List Literal)) → Means text spans more p reading r → (n : ℕ) → r .place ≡ At n

@@ -1,43 +1,36 @@
 // Conditions and effects of PDDL: the facts that a formula names, as masks over a table of names. A
 // formula is an atom, in an effect perhaps negated, or an `and` of formulas.
-ghost use mathlib.Core.Path.{_≡_};
-ghost use Prim.Native.Nat.{_≤_, _^_, _<_};
+ghost use Prim.Native.Nat.{_≤_};
 ghost use lib.ListN.{length};
-ghost use Rattle.pddl_formula.specs.Inner.Formula.{Ready, nothing, FactOf};
+ghost use Rattle.pddl_formula.specs.Inner.Formula.{Ready, Nothing, FactOf};
 ghost use Rattle.pddl_formula.specs.Inner.Formula.{LiteralAt, NegationAt};
 ghost use Rattle.pddl_formula.specs.Inner.Formula.{FormulaAt, ListAt, Goes};
+use mask::Mask;
 
 // The facts that a formula adds and those that it deletes, whether all its names are known,
 // and the place behind it.
 pub struct Literals {
-    pub adds: u64,
-    pub dels: u64,
+    pub adds: Mask,
+    pub dels: Mask,
     pub known: bool,
     pub place: pddl_form::Place,
 }
 
-// A fact's bit, 0 of a name that is not in the table; whether the name is known.
+// The mask of a fact alone, empty for a name that is not in the table; whether the name is known.
 pub struct Fact {
-    pub bit: u64,
+    pub bit: Mask,
     pub known: bool,
 }
 
 fn outside() -> Literals
-    ensures { λ r. ⌜ r ≡ nothing ⌝ }
+    ensures { λ r. ⌜ Nothing r ⌝ }
 {
     Literals {
-        adds: 0,
-        dels: 0,
+        adds: pddl_words::none(),
+        dels: pddl_words::none(),
         known: true,
         place: pddl_form::Place::Outside,
     }
-}
-
-fn bit(k: usize) -> u64
-    requires { ⌜ k < 64 ⌝ }
-    ensures { λ r. ⌜ r ≡ 2 ^ k ⌝ }
-{
-    1 << k
 }
 
 // The word s..e as a fact: among the names of the table, or those from the offset `more` on.
@@ -48,11 +41,11 @@ pub fn fact_of(text: &[u8], spans: &[usize], more: usize, s: usize, e: usize) ->
     let f = pddl_name::lookup(text, spans, s, e);
     match f {
         pddl_name::Found::At(k) => Fact {
-            bit: bit(k),
+            bit: pddl_words::fact(k),
             known: true,
         },
         pddl_name::Found::Absent => Fact {
-            bit: 0,
+            bit: pddl_words::none(),
             known: pddl_form::stands(text, more, s, e),
         },
     }
@@ -68,9 +61,10 @@ fn literal(text: &[u8], spans: &[usize], more: usize, s: usize, e: usize) -> Lit
         match closed {
             pddl_form::Place::At(n) => {
                 let f = fact_of(text, spans, more, s, e);
+                let adds = f.bit;
                 Literals {
-                    adds: f.bit,
-                    dels: 0,
+                    adds,
+                    dels: pddl_words::none(),
                     known: f.known,
                     place: pddl_form::Place::At(n),
                 }
@@ -95,9 +89,10 @@ fn negation(text: &[u8], spans: &[usize], more: usize, at: usize) -> Literals
     match closed {
         pddl_form::Place::At(n) => {
             let f = fact_of(text, spans, more, first, end);
+            let dels = f.bit;
             Literals {
-                adds: 0,
-                dels: f.bit,
+                adds: pddl_words::none(),
+                dels,
                 known: f.known,
                 place: pddl_form::Place::At(n),
             }
@@ -160,8 +155,8 @@ fn formulas(
     requires { ⌜ Ready (now text) (now spans) ⌝ }
     ensures { λ r. ⌜ ListAt (now (text .entry)) (now (spans .entry)) more negations allowed at r ⌝ }
 {
-    let mut adds = 0;
-    let mut dels = 0;
+    let mut adds = pddl_words::none();
+    let mut dels = pddl_words::none();
     let mut known = true;
     let mut i = at;
     loop {
@@ -169,11 +164,13 @@ fn formulas(
         match t {
             pddl_token::Token::Open(n) => {
                 let f = formula(text, spans, more, n, negations, allowed);
+                let added = f.adds;
+                let deleted = f.dels;
                 let behind = f.place;
                 match behind {
                     pddl_form::Place::At(k) => {
-                        adds = adds | f.adds;
-                        dels = dels | f.dels;
+                        adds = pddl_words::union(adds, added);
+                        dels = pddl_words::union(dels, deleted);
                         known = known & f.known;
                         i = k;
                     }

@@ -7,6 +7,7 @@ use native.Mathlib.Numerals.{add-one}
 use native.Mathlib.Omega.{arith}
 use lib.ListN.{length, getD, set, take, length-set, length-append}
 use lib.Seq.{take-suc-set, length-take-le}
+use Rattle.pddl_theory.specs.Inner.Limits.{mostFacts}
 use Rattle.pddl_theory.specs.Inner.Place.{rest, span}
 use Rattle.pddl_theory.proofs.Spelt.{atom-some, span-within}
 use Rattle.pddl_name.specs.Inner.Table.{namesIn, Spans}
@@ -137,9 +138,9 @@ first-within {text} {i} {a} x n e =
     span-within text (a .first) (a .end) (rw (atom-read x n e) at (atom-some (rest text i) .each))
 
 module _ {text : List ℕ} {at : ℕ} {start spans : List ℕ} {n i : ℕ}
-    (g : Filling 64 (atomsFrom text) text at start spans n i) where
+    (g : Filling mostFacts (atomsFrom text) text at start spans n i) where
   module _ (a : Word) (x : Atoms text (At i) a) where
-    pub filling-on : n < 64 → (m : ℕ) → a .place ≡ At m → Filling 64 (atomsFrom text) text at start
+    pub filling-on : n < mostFacts → (m : ℕ) → a .place ≡ At m → Filling mostFacts (atomsFrom text) text at start
         (set (set spans (2 * n) (a .first)) (2 * n + 1) (a .end)) (n + 1) m
     filling-on below m e =
         filling-next g below (a .first) (a .end) m (first-within x m e) (x .within) (atoms-next x m e)
@@ -155,7 +156,7 @@ module _ {text : List ℕ} {at : ℕ} {start spans : List ℕ} {n i : ℕ}
           all = λ _. atoms-none x e;
         }
 
-  pub filling-end : 64 ≤ n → Tabled text at spans (record { count = n; more = i })
+  pub filling-end : mostFacts ≤ n → Tabled text at spans (record { count = n; more = i })
   filling-end h =
       record {
         room = omega (arith, g .few, g .room);

@@ -6,6 +6,7 @@ ghost use Prim.Native.Nat.{_≤_, _*_};
 ghost use lib.ListN.{length};
 ghost use Rattle.semantics.specs.Base.{allOf};
 ghost use Rattle.semantics.specs.Pddl.{isIn, sameNames, noneTwice};
+ghost use Rattle.pddl_theory.specs.Inner.Limits.{mostFacts};
 ghost use Rattle.pddl_name.specs.Inner.Table.{namesIn, Spans};
 ghost use Rattle.pddl_form.specs.Inner.Place.{atomsFrom};
 ghost use Rattle.pddl_list.specs.Inner.Table.{Tabled};
@@ -15,8 +16,6 @@ pub struct Table {
     pub count: usize,
     pub more: usize,
 }
-
-const MOST_NAMES: usize = 64;
 
 // The number of atoms from an offset on.
 pub fn count(text: &[u8], at: usize) -> usize
@@ -150,15 +149,15 @@ pub fn covered(text: &[u8], a: usize, b: usize) -> bool
     }
 }
 
-// The first atoms from an offset on, at most 64, go into the table: of each its first offset and
+// The first atoms from an offset on, at most 128, go into the table: of each its first offset and
 // the one behind it.
 pub fn fill(text: &[u8], at: usize, spans: &mut [usize]) -> Table
-    requires { ⌜ 2 * 64 ≤ length (now spans) ⌝ }
+    requires { ⌜ 2 * mostFacts ≤ length (now spans) ⌝ }
     ensures { λ r. ⌜ Tabled (now (text .entry)) at (now (spans .exit)) r ⌝ }
 {
     let mut n = 0;
     let mut i = at;
-    while n < MOST_NAMES {
+    while n < pddl_words::MOST_FACTS {
         let a = pddl_form::atom_at(text, pddl_form::Place::At(i));
         let behind = a.place;
         match behind {

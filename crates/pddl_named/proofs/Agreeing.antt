@@ -6,6 +6,8 @@ use Prim.Native.Nat.{ℕ, _≤_}
 use lib.Dec.{eqb}
 use Rattle.semantics.specs.Base.{allOf}
 use Rattle.semantics.specs.Pddl.{isIn, sameSet, sameNames, noneTwice, known, same, wellNamed}
+use Rattle.mask.specs.Number.{number}
+use Rattle.pddl_theory.specs.Inner.Limits.{mostFacts}
 use Rattle.pddl_theory.specs.Inner.Place.{span}
 use Rattle.pddl_theory.proofs.Sets.{same-set, sameSet-refl}
 use Rattle.pddl_name.specs.Inner.Table.{namesIn}
@@ -40,16 +42,17 @@ module _ {text spans : List ℕ} {c : Common} (x : CommonIn text spans c) (at : 
   facts-unknown h = rw (← known-here, h)
 
   module _ (h : f .known ≡ true) where
-    names-in-table : c .facts ≤ 64 → atomsFrom text (c .predicates) ≡ namesIn text spans
+    names-in-table : c .facts ≤ mostFacts → atomsFrom text (c .predicates) ≡ namesIn text spans
     names-in-table l =
         x .whole ∙ ap (λ (ws : List (List ℕ)). namesIn text spans ++ ws) (x .all (rw (x .facts) at l)) ∙ append-nil _
 
-    pub facts-by-mask : c .facts ≤ 64 → eqb (f .mask) (c .mask) ≡ agree text c at
-    facts-by-mask l =
+    pub facts-by-mask : c .facts ≤ mostFacts → (r : Bool) → r ≡ eqb (number (f .mask)) (number (c .mask))
+        → r ≡ agree text c at
+    facts-by-mask l r is =
         let P : List (List ℕ) = namesIn text spans in
         let here : allOf (isIn P) (atomsFrom text at) ≡ true = rw (names-in-table l) at (sym known-here ∙ h) in
         let first : allOf (isIn P) (atomsFrom text (c .initially)) ≡ true = rw (names-in-table l) at (x .known) in
-        rw (← known-here, h, y .mask, x .mask) (same-set P (atomsFrom text at)
+        is ∙ rw (← known-here, h, y .mask, x .mask) (same-set P (atomsFrom text at)
         (atomsFrom text (c .initially)) here first)
 
     pub facts-by-name : (a b : Bool) → a ≡ allOf (isIn (atomsFrom text (c .initially))) (atomsFrom text at)

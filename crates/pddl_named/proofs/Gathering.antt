@@ -7,6 +7,8 @@ use native.Mathlib.Omega.{arith}
 use lib.ListN.{length, length-append}
 use lib.Bits.{bitOr, or-zero-l, or-zero-r}
 use Rattle.semantics.specs.Pddl.{isIn, maskOf, actionsOf}
+use Rattle.mask.specs.declared.Mask.{Mask}
+use Rattle.mask.specs.Number.{number}
 use Rattle.pddl_theory.proofs.Sets.{or-bits-assoc}
 use Rattle.pddl_theory.proofs.Sizes.{actions-few}
 use Rattle.pddl_theory.proofs.Turns.{Held, held-begin, held-on, held-end}
@@ -27,26 +29,29 @@ use Rattle.pddl_named.specs.Inner.Common.{FactsOf}
 -- ---- atoms as facts
 
 -- the mask of the atoms before i, and whether they are known
-pub record Gathering (text spans : List ℕ) (more at mask : ℕ) (known : Bool) (i : ℕ) : Type 0 where
-  pub masks : maskOf (namesIn text spans) (atomsFrom text at) ≡ bitOr mask
+pub record Gathering (text spans : List ℕ) (more at : ℕ) (mask : Mask) (known : Bool) (i : ℕ) : Type 0 where
+  pub masks : maskOf (namesIn text spans) (atomsFrom text at) ≡ bitOr (number mask)
       (maskOf (namesIn text spans) (atomsFrom text i))
   pub names : Held (isIn (namesIn text spans ++ atomsFrom text more)) (atomsFrom text) at known i
 
-pub gathering-begin : (text spans : List ℕ) (more at : ℕ) → Gathering text spans more at 0 true at
-gathering-begin text spans more at =
+pub gathering-begin : (text spans : List ℕ) (more at : ℕ) (mask : Mask) → number mask ≡ 0
+    → Gathering text spans more at mask true at
+gathering-begin text spans more at mask z =
     record {
-      masks = sym (or-zero-l _);
+      masks = sym (ap (λ (m : ℕ). bitOr m (maskOf (namesIn text spans) (atomsFrom text at))) z ∙ or-zero-l _);
       names = held-begin (isIn (namesIn text spans ++ atomsFrom text more)) (atomsFrom text) at;
     }
 
-module _ {text spans : List ℕ} {more at mask : ℕ} {known : Bool} {i : ℕ} (g : Gathering text spans more at mask known i)
-    (a : Word) (x : Atoms text (At i) a) where
+module _ {text spans : List ℕ} {more at : ℕ} {mask : Mask} {known : Bool} {i : ℕ}
+    (g : Gathering text spans more at mask known i) (a : Word) (x : Atoms text (At i) a) where
   pub gathering-on : (n : ℕ) → a .place ≡ At n → (f : Fact) → FactOf text spans more (a .first) (a .end) f
-      → Gathering text spans more at (bitOr mask (f .bit)) (known && f .known) n
+      → (m : Mask) → number m ≡ bitOr (number mask) (number (f .bit))
+      → Gathering text spans more at m (known && f .known) n
   unfolding maskOf
-  gathering-on n e f y =
+  gathering-on n e f y m is =
       record {
-        masks = g .masks ∙ rw (atoms-next x n e, ← y .bit) (sym (or-bits-assoc mask (f .bit) _));
+        masks = g .masks ∙ rw (atoms-next x n e, ← y .bit, is)
+            (sym (or-bits-assoc (number mask) (number (f .bit)) _));
         names = held-on (isIn (namesIn text spans ++ atomsFrom text more)) (g .names) n (atoms-next x n e) (f .known)
             (y .names);
       }
@@ -55,7 +60,7 @@ module _ {text spans : List ℕ} {more at mask : ℕ} {known : Bool} {i : ℕ} (
   unfolding maskOf
   gathered e =
       record {
-        mask = sym (g .masks ∙ rw (atoms-none x e) (or-zero-r mask));
+        mask = sym (g .masks ∙ rw (atoms-none x e) (or-zero-r (number mask)));
         names = held-end (isIn (namesIn text spans ++ atomsFrom text more)) (g .names) (atoms-none x e);
       }
 

@@ -1,6 +1,6 @@
 -- The pass over the members: their actions are counted, and rows of actions and goals go into tables, if there is room
 -- for those of all.
-use mathlib.Core.Path.{_≡_, refl, sym, ap, _∙_}
+use mathlib.Core.Path.{_≡_, refl, sym, ap, ap₂, subst, _∙_}
 use mathlib.Core.Bool.{true, false}
 use mathlib.Core.List.{List, [], _∷_}
 use Prim.Native.Nat.{ℕ, suc, _+_, _*_, _^_, _≤_, _<_}
@@ -11,9 +11,12 @@ use mir.Syntax.{w64}
 use mir.Val.{Fits}
 use Rattle.semantics.specs.Pddl as Pddl
 use Rattle.semantics.specs.Pddl.{ownRows, actionRows, actionsOf, goalRows, maskOf, factsOf}
+use Rattle.semantics.specs.Words.{rowWords}
+use Rattle.semantics.specs.Task.{rowWidth}
+use Rattle.mask.specs.Number.{number}
 use Rattle.theory.proofs.Lists.{true-not-false}
 use Rattle.pddl_theory.proofs.Sizes.{members-few}
-use Rattle.pddl_theory.specs.Inner.Appended.{row, Appended}
+use Rattle.pddl_theory.specs.Inner.Appended.{Appended}
 use Rattle.pddl_name.specs.Inner.Table.{namesIn}
 use Rattle.pddl_form.specs.declared.Place.{Place}
 use Rattle.pddl_form.specs.declared.Place.the-variants.{At, Outside}
@@ -33,7 +36,7 @@ use Rattle.pddl_named.proofs.Agreeing.{Agreeing, agreeing-begin, agreei
 use Rattle.pddl_named.proofs.Gathering.{Adding, adding-begin, adding-on, adding-below, adding-end}
 
 pub own-length : (P : List (List ℕ)) (waits : List ℕ) (i a : ℕ) (xs : List Pddl.Action)
-    → length (ownRows P waits i a xs) ≡ 5 * length xs
+    → length (ownRows P waits i a xs) ≡ rowWidth * length xs
 unfolding ownRows
 own-length P waits i a [] = refl
 own-length P waits i a (x ∷ xs) = omega (arith, own-length P waits i (suc a) xs)
@@ -61,9 +64,17 @@ fewer {text} {i} {m} x n e =
 
 module _ {text spans : List ℕ} {more : ℕ} {goal : Place} (g : Literals) (x : Goes text spans more false goal g)
     (owner : ℕ) where
-  pub goal-placed : (before after : List ℕ) → Appended before (5 * owner) (row owner (g .adds) 0 0 0) after
+  pub goal-placed : (before after : List ℕ) (z : ℕ) → z ≡ 0
+      → Appended before (rowWidth * owner) (rowWords owner (number (g .adds)) z z z) after
       → GoalIn text spans more goal before owner after (g .known)
-  goal-placed before after y = record { names = x .means .names; stored = λ _. rw (← x .means .adds) y }
+  goal-placed before after z none y =
+      let facts : ℕ = maskOf (namesIn text spans) (factsOf false (literalsAt text false goal)) in
+      let words : rowWords owner (number (g .adds)) z z z ≡ rowWords owner facts 0 0 0 =
+      ap₂ (λ (m n : ℕ). rowWords owner m n n n) (x .means .adds) none in
+      record {
+        names = x .means .names;
+        stored = λ _. subst (λ (w : List ℕ). Appended before (rowWidth * owner) w after) words y;
+      }
 
   pub goal-full : (goals : List ℕ) → 8 ≤ owner → GoalIn text spans more goal goals owner goals (g .known)
   goal-full goals h = record { names = x .means .names; stored = λ l. absurd (omega (arith, l)) }
@@ -80,9 +91,10 @@ pub record Passing (text spans : List ℕ) (c : Common) (masks table₀ goals₀
   agreeing : Agreeing text (predicates text c) (initially text c) i
   adding : Adding text count i
   rows : length (actionsOf (membersFrom text 0)) ≤ 256 → (waits : List ℕ) → Waits waits masks
-      → Still table₀ 0 (allFrom text spans waits 0 0 0) table (5 * count) (allFrom text spans waits owner count i)
+      → Still table₀ 0 (allFrom text spans waits 0 0 0) table (rowWidth * count)
+      (allFrom text spans waits owner count i)
   goal-rows : length (membersFrom text 0) ≤ 8
-      → Still goals₀ 0 (goalsFrom text spans 0 0) goals (5 * owner) (goalsFrom text spans owner i)
+      → Still goals₀ 0 (goalsFrom text spans 0 0) goals (rowWidth * owner) (goalsFrom text spans owner i)
 
 pub passing-begin : (text spans : List ℕ) (c : Common) (masks table goals : List ℕ) → length text < 2 ^ 63
     → Passing text spans c masks table goals table goals 0 0 0
@@ -138,7 +150,7 @@ module _ {text spans : List ℕ} {c : Common} {masks table₀ goals₀ table goa
                 omega (arith, below, next .whole, y .number) in
                 still-on (g .rows below waits w)
                 (ownRows (namesIn text spans) waits owner count (actionsFrom text (m .domain .actions)))
-                (allFrom text spans waits (owner + 1) (count + o .count) n) u (5 * (count + o .count))
+                (allFrom text spans waits (owner + 1) (count + o .count) n) u (rowWidth * (count + o .count))
                 (ap (actionRows (namesIn text spans) waits owner count) (members-next x n at)
                 ∙ rw (add-one owner, y .number))
                 (y .rows-in .rows fits .each waits w)
@@ -148,8 +160,9 @@ module _ {text spans : List ℕ} {c : Common} {masks table₀ goals₀ table goa
                   own-length (namesIn text spans) waits owner count (actionsFrom text (m .domain .actions)),
                 ));
             goal-rows = λ few.
-                still-on (g .goal-rows few) (row owner goal 0 0 0) (goalsFrom text spans (owner + 1) n) v
-                (5 * (owner + 1)) (ap (goalRows (namesIn text spans) owner) (members-next x n at) ∙ rw (add-one owner))
+                still-on (g .goal-rows few) (rowWords owner goal 0 0 0) (goalsFrom text spans (owner + 1) n) v
+                (rowWidth * (owner + 1))
+                (ap (goalRows (namesIn text spans) owner) (members-next x n at) ∙ rw (add-one owner))
                 (y .goal-in .stored (omega (arith, few, g .number, one-less))) (omega arith);
           }
 

@@ -5,6 +5,8 @@ ghost use Prim.Native.Nat.{_+_, _*_, _≤_};
 ghost use lib.ListN.{length};
 ghost use Rattle.semantics.specs.Base.{allOf};
 ghost use mathlib.Core.Bool.{_&&_};
+ghost use Rattle.semantics.specs.Words.{statesIn};
+ghost use Rattle.semantics.specs.Task.{rowWidth};
 ghost use Rattle.semantics.specs.Pddl.{isIn, sameSet};
 ghost use Rattle.pddl_form.specs.Inner.Place.{atomsFrom};
 ghost use Rattle.pddl_formula.specs.Inner.Formula.{Ready};
@@ -12,9 +14,7 @@ ghost use Rattle.pddl_section.specs.Inner.Section.{actionsFrom};
 ghost use Rattle.pddl_members.specs.Inner.Kept.{Kept};
 ghost use Rattle.pddl_named.specs.Inner.Common.{FactsOf, CommonIn};
 ghost use Rattle.pddl_named.specs.Inner.Rows.{GoalIn, MemberIn, MembersIn};
-
-// Words in a row.
-const ROW: usize = 5;
+use mask::Mask;
 
 const MOST_MEMBERS: usize = 8;
 
@@ -25,12 +25,12 @@ pub struct Common {
     pub initially: usize,
     pub facts: usize,
     pub more: usize,
-    pub mask: u64,
+    pub mask: Mask,
 }
 
 // A list of atoms as facts: their mask over the table, and whether all are known.
 pub struct Facts {
-    pub mask: u64,
+    pub mask: Mask,
     pub known: bool,
 }
 
@@ -39,7 +39,7 @@ pub fn facts_from(text: &[u8], spans: &[usize], more: usize, at: usize) -> Facts
     requires { ⌜ Ready (now text) (now spans) ⌝ }
     ensures { λ r. ⌜ FactsOf (now (text .entry)) (now (spans .entry)) more at r ⌝ }
 {
-    let mut mask = 0;
+    let mut mask = pddl_words::none();
     let mut known = true;
     let mut i = at;
     loop {
@@ -50,7 +50,8 @@ pub fn facts_from(text: &[u8], spans: &[usize], more: usize, at: usize) -> Facts
         match behind {
             pddl_form::Place::At(n) => {
                 let f = pddl_formula::fact_of(text, spans, more, first, end);
-                mask = mask | f.bit;
+                let bit = f.bit;
+                mask = pddl_words::union(mask, bit);
                 known = known & f.known;
                 i = n;
             }
@@ -75,8 +76,10 @@ fn same_facts(text: &[u8], spans: &[usize], c: Common, at: usize) -> bool
     }
     let f = facts_from(text, spans, c.more, at);
     if f.known {
-        if c.facts <= 64 {
-            f.mask == c.mask
+        if c.facts <= pddl_words::MOST_FACTS {
+            let here = f.mask;
+            let first = c.mask;
+            mask::same(here, first)
         } else {
             pddl_list::covered(text, at, c.initially) & pddl_list::covered(text, c.initially, at)
         }
@@ -95,14 +98,16 @@ fn goal_named(
     owner: usize,
 ) -> bool
     requires { ⌜ Ready (now text) (now spans) ⌝ }
-    requires { ⌜ 5 * 8 ≤ length (now goals) ⌝ }
+    requires { ⌜ rowWidth * 8 ≤ length (now goals) ⌝ }
     ensures { λ r. ⌜ GoalIn (now (text .entry)) (now (spans .entry)) more goal
         (now (goals .entry)) owner (now (goals .exit)) r ⌝ }
 {
     let g = pddl_formula::formula_at(text, spans, more, goal, false);
     if owner < MOST_MEMBERS {
-        let at = ROW * owner;
-        pddl_words::put_row(goals, at, owner as u64, g.adds, 0, 0, 0);
+        let at = pddl_words::ROW * owner;
+        let facts = g.adds;
+        let none = pddl_words::none();
+        pddl_words::put_row(goals, at, owner as u64, facts, none, none, none);
     }
     g.known
 }
@@ -122,8 +127,9 @@ fn well_named(
 ) -> pddl_acts::Own
     requires { ⌜ CommonIn (now text) (now spans) c ⌝ }
     requires { ⌜ (m .domain .end ≤ length (now text)) × (m .problem .end ≤ length (now text)) ⌝ }
-    requires { ⌜ (5 * 256 ≤ length (now table)) × (256 ≤ length (now waits)) ⌝ }
-    requires { ⌜ 5 * 8 ≤ length (now goals) ⌝ }
+    requires { ⌜ (rowWidth * 256 ≤ length (now table))
+        × (256 ≤ statesIn (length (now waits))) ⌝ }
+    requires { ⌜ rowWidth * 8 ≤ length (now goals) ⌝ }
     requires { ⌜ first + length (actionsFrom (now text) (m .domain .actions))
         ≤ length (now text) ⌝ }
     ensures { λ r. ⌜ MemberIn (now (text .entry)) (now (spans .entry)) c m (now (waits .entry))
@@ -158,8 +164,9 @@ pub fn all_named(
 ) -> pddl_acts::Own
     requires { ⌜ CommonIn (now text) (now spans) c ⌝ }
     requires { ⌜ Kept (now text) (now places) ⌝ }
-    requires { ⌜ (5 * 256 ≤ length (now table)) × (256 ≤ length (now waits)) ⌝ }
-    requires { ⌜ 5 * 8 ≤ length (now goals) ⌝ }
+    requires { ⌜ (rowWidth * 256 ≤ length (now table))
+        × (256 ≤ statesIn (length (now waits))) ⌝ }
+    requires { ⌜ rowWidth * 8 ≤ length (now goals) ⌝ }
     ensures { λ r. ⌜ MembersIn (now (text .entry)) (now (spans .entry)) c (now (waits .entry))
         (now (table .entry)) (now (goals .entry)) (now (table .exit)) (now (goals .exit)) r ⌝ }
 {

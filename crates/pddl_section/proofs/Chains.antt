@@ -22,6 +22,7 @@ use Rattle.pddl_formula.specs.Inner.Formula.{Goes}
 use Rattle.pddl_section.specs.Inner.Section.{literalsAt, FormulaEnds, actionOf, Acts, Masked, actionsFrom}
 use Rattle.pddl_section.specs.Inner.Section.{ActionsEnd}
 use Rattle.pddl_section.specs.Inner.Section.{domainOf, Domains, problemOf, Problems, memberOf, Members}
+use Rattle.mask.specs.declared.Mask.{Mask}
 use Rattle.pddl_section.specs.declared.Act.{Act}
 use Rattle.pddl_section.specs.declared.Domain.{Domain}
 use Rattle.pddl_section.specs.declared.Problem.{Problem}
@@ -73,7 +74,7 @@ module _ (text : List ℕ) (p a : Place) (w : Word) (b c d e z : Place)
     (x-a : Expects text p (40 ∷ :action) a) (x-w : Names text a w)
     (x-b : Expects text (w .place) (:parameters ++ (40 ∷ 41 ∷ :precondition)) b) (x-c : FormulaEnds text false b c)
     (x-d : Expects text c :effect d) (x-e : FormulaEnds text true d e) (x-z : Closes text e z)
-    (needs adds dels : ℕ) (known : Bool) where
+    (needs adds dels : Mask) (known : Bool) where
   abbrev made : Act
   made =
       record {

@@ -4,6 +4,7 @@ ghost use Rattle.pddl_form.specs.declared.Place.the-variants.{At};
 ghost use Rattle.pddl_formula.specs.Inner.Formula.{Ready};
 ghost use Rattle.pddl_section.specs.Inner.Section.{FormulaEnds, Acts, Masked, ActionsEnd};
 ghost use Rattle.pddl_section.specs.Inner.Section.{Domains, Problems, Members};
+use mask::Mask;
 
 // An action: its name, the places of its precondition and its effect, the facts that it needs, adds
 // and deletes, whether all that it names are known, the place behind it.
@@ -12,9 +13,9 @@ pub struct Act {
     pub end: usize,
     pub precondition: pddl_form::Place,
     pub effect: pddl_form::Place,
-    pub needs: u64,
-    pub adds: u64,
-    pub dels: u64,
+    pub needs: Mask,
+    pub adds: Mask,
+    pub dels: Mask,
     pub known: bool,
     pub place: pddl_form::Place,
 }
@@ -65,9 +66,12 @@ pub fn action_at(text: &[u8], spans: &[usize], more: usize, p: pddl_form::Place)
     let named = name.place;
     let b = pddl_form::expect(text, named, b":parameters():precondition");
     let needed = pddl_formula::formula_at(text, spans, more, b, false);
+    let needs = needed.adds;
     let c = needed.place;
     let d = pddl_form::expect(text, c, b":effect");
     let changed = pddl_formula::formula_at(text, spans, more, d, true);
+    let adds = changed.adds;
+    let dels = changed.dels;
     let e = changed.place;
     let end = pddl_form::close_at(text, e);
     Act {
@@ -75,9 +79,9 @@ pub fn action_at(text: &[u8], spans: &[usize], more: usize, p: pddl_form::Place)
         end: name.end,
         precondition: b,
         effect: d,
-        needs: needed.adds,
-        adds: changed.adds,
-        dels: changed.dels,
+        needs,
+        adds,
+        dels,
         known: needed.known & changed.known,
         place: end,
     }

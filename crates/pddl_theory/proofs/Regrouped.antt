@@ -9,7 +9,7 @@ use native.Mathlib.Omega.{arith}
 use lib.ListN.{length}
 use Rattle.semantics.specs.Base.{Answer, refused, gives, _if_, _else_}
 use Rattle.semantics.specs.Words.{statesIn}
-use Rattle.semantics.specs.Task.{check, members, initial, actionWord}
+use Rattle.semantics.specs.Task.{check, members, initial}
 use Rattle.semantics.specs.System.{Lawful, system, waits}
 use Rattle.semantics.specs.Model.{Robust}
 use Rattle.semantics.specs.Verdict.{Room, localRows, configurationRows, tooShort, unsolvable, notRobust, robust}
@@ -26,7 +26,7 @@ use Rattle.theory.proofs.VerdictSearch.{verdict-searches}
 use Rattle.theory.proofs.Agrees.Solo.{leads-solution}
 use Rattle.theory.proofs.Demand3.{demand3}
 use Rattle.pddl_theory.proofs.RegroupedModel.{robust-renamed}
-use Rattle.pddl_theory.proofs.RegroupedTasks.{Renumbers, renames, exceed-sub, solvable-renumbered}
+use Rattle.pddl_theory.proofs.RegroupedTasks.{actionWord, Renumbers, renames, exceed-sub, solvable-renumbered}
 use Rattle.pddl_theory.proofs.RegroupedTasks.{copies-renumbered, configured-renumbered}
 use Rattle.pddl_theory.proofs.RegroupedWords.{grouped-members, grouped-actions, grouped-initial, grouped-goal}
 use Rattle.pddl_theory.proofs.RegroupedWords.{old, old-below, old-word, new, grouped-accepted}

@@ -1,16 +1,22 @@
 -- A task whose actions another task has under other numbers: what the model and the verdict's search find of the one,
 -- they find of the other.
-use mathlib.Core.Path.{_≡_, sym, ap, subst, _∙_}
+use mathlib.Core.Path.{_≡_, sym, ap, ap₂, subst, _∙_}
 use mathlib.Core.List.{List, map}
-use Prim.Native.Nat.{ℕ, _<_}
+use Prim.Native.Nat.{ℕ, _+_, _<_}
 use native.Mathlib.Omega.{arith}
-use Rattle.semantics.specs.Task.{rowWidth, members, actions, initial, goal, actionWord, owner, pre, add, del}
+use Rattle.semantics.specs.Words.{ofWords}
+use Rattle.semantics.specs.Task.{rowWidth, word, maskIn, members, actions, initial, goal, actionAt, owner, pre, add}
+use Rattle.semantics.specs.Task.{del}
 use Rattle.semantics.specs.System.{result, system}
 use Rattle.semantics.specs.Model.{FactSet, _⊆_, Executes}
 use Rattle.semantics.specs.Verdict.{localCopy, sharedCopy, moved}
 use Rattle.semantics.specs.Demands.{factsOf, setting, Reachable, Completable, Solvable, Exceed, CopiesExceed}
 use Rattle.semantics.specs.Demands.{Configured, at-start, by-move}
 use Rattle.pddl_theory.proofs.RegroupedModel.{Renames, executes-renamed, solution-renamed}
+
+-- word k of action a's row
+abbrev pub actionWord : List ℕ → ℕ → ℕ → ℕ
+actionWord t a k = word t (actionAt t a) k
 
 -- action a of the one is action ρ a of the other
 pub record Renumbers (t u : List ℕ) (ρ : ℕ → ℕ) : Type 0 where
@@ -28,14 +34,17 @@ module _ (t u : List ℕ) (ρ : ℕ → ℕ) (r : Renumbers t u ρ) where
   same-owner : (a : ℕ) → owner t a ≡ owner u (ρ a)
   same-owner a = r .words a 0 (omega arith)
 
+  same-mask : (a k : ℕ) → k + 1 < rowWidth → maskIn t (actionAt t a) k ≡ maskIn u (actionAt u (ρ a)) k
+  same-mask a k h = ap₂ ofWords (r .words a k (omega arith)) (r .words a (k + 1) h)
+
   same-pre : (a : ℕ) → pre t a ≡ pre u (ρ a)
-  same-pre a = r .words a 1 (omega arith)
+  same-pre a = same-mask a 1 (omega arith)
 
   same-add : (a : ℕ) → add t a ≡ add u (ρ a)
-  same-add a = r .words a 3 (omega arith)
+  same-add a = same-mask a 5 (omega arith)
 
   same-del : (a : ℕ) → del t a ≡ del u (ρ a)
-  same-del a = r .words a 4 (omega arith)
+  same-del a = same-mask a 7 (omega arith)
 
   pub renames : Renames (setting t) (setting u) ρ
   renames =
@@ -45,7 +54,7 @@ module _ (t u : List ℕ) (ρ : ℕ → ℕ) (r : Renumbers t u ρ) where
         goal = λ i l. ap factsOf (r .goals i l);
         owned = λ i a o. (r .below a (o .0), sym (same-owner a) ∙ o .1);
         pre = λ a. ap factsOf (same-pre a);
-        waitfor = λ a. ap factsOf (r .words a 2 (omega arith));
+        waitfor = λ a. ap factsOf (same-mask a 3 (omega arith));
         add = λ a. ap factsOf (same-add a);
         del = λ a. ap factsOf (same-del a);
       }

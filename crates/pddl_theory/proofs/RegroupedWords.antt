@@ -1,25 +1,27 @@
 -- The words of a grouped task: its head and goals are those of the task, and its action k is the task's action that
 -- stands at k in the order. An accepted task's grouped task is accepted.
-use mathlib.Core.Path.{_≡_, refl, sym, ap, _∙_}
+use mathlib.Core.Path.{_≡_, refl, sym, ap, ap₂, _∙_}
 use mathlib.Core.Bool.{Bool, not}
 use mathlib.Core.Logic.{⊎-elim}
 use mathlib.Core.List.{List, [], _∷_, _++_, map, flatten, List·Memᴰ, List·Memᴰ·head, List·Memᴰ·tail, List·Memᴰ·not-nil}
 use mathlib.Core.List.{List·Memᴰ·append-cases}
-use Prim.Native.Nat.{ℕ, zero, suc, _+_, _*_, _≤_, _<_}
+use Prim.Native.Nat.{ℕ, zero, suc, _+_, _-_, _*_, _≤_, _<_}
 use native.Mathlib.Omega.{arith}
 use lib.ListN.{length, getD, take, length-append, List·getD-append, List·getD-eq-default}
 use lib.Seq.{length-take-le, getD-take, getD-append-add}
 use lib.Dec.{eqb, ltb}
 use borrow.Author.Tests.{eqb-true, eq-eqb}
-use Rattle.semantics.specs.Base.{numbersFrom, upTo, collect, keep, _if_, _else_, firstRefusal}
-use Rattle.semantics.specs.Mask.{below}
-use Rattle.semantics.specs.Task.{rowWidth, word, facts, members, actions, initial, goal, actionWord, owner}
-use Rattle.semantics.specs.Task.{headFits, goalRow, actionRow, check}
+use Rattle.semantics.specs.Base.{numbersFrom, upTo, allOf, collect, keep, _if_, _else_, firstRefusal}
+use Rattle.semantics.specs.Words.{ofWords}
+use Rattle.semantics.specs.Task.{rowWidth, word, maskIn, facts, members, actions, initial, goal, owner}
+use Rattle.semantics.specs.Task.{zerosFrom, maskFits, headFits, goalRow, actionRow, check}
 use Rattle.semantics.specs.PddlWrite.{own, order, rowOf, grouped}
 use Rattle.theory.proofs.Lists.{lt-or-ge, not-true-false, collect-yes, collect-no, filter-mem, mem-filter, upTo-mem}
 use Rattle.theory.proofs.Lists.{mem-upTo, upTo-length, mem-flatten, mem-getD, mem-index, getD-any}
 use Rattle.theory.proofs.Refusals.{else-both, no-refusal, upTo-refusal}
+use Rattle.theory.proofs.Words.{low-of, high-of}
 use Rattle.theory.proofs.Accepted.{Accepted, accepted}
+use Rattle.pddl_theory.proofs.RegroupedTasks.{actionWord}
 
 -- ---- a list in groups, by a number of each entry
 
@@ -118,15 +120,41 @@ module _ (t : List ℕ) (fits : Accepted t) where
 
 -- ---- the words
 
--- word c of the first of some rows
-first-word : (t rest : List ℕ) (a c : ℕ) → c < rowWidth → getD (rowOf t a ++ rest) c 0 ≡ actionWord t a c
+-- a row is its own nine words, as its masks' low words are words
+row-is : (t : List ℕ) → Accepted t → (a : ℕ)
+    → rowOf t a ≡ map (actionWord t a) (0 ∷ 1 ∷ 2 ∷ 3 ∷ 4 ∷ 5 ∷ 6 ∷ 7 ∷ 8 ∷ [])
 unfolding rowOf
-first-word t rest a zero h = refl
-first-word t rest a (suc zero) h = refl
-first-word t rest a (suc (suc zero)) h = refl
-first-word t rest a (suc (suc (suc zero))) h = refl
-first-word t rest a (suc (suc (suc (suc zero)))) h = refl
-first-word t rest a (suc (suc (suc (suc (suc c))))) h = absurd (omega arith)
+row-is t fits a =
+    let h = fits .action-fits a in
+    let w = actionWord t a in
+    rw (
+      low-of (w 1) (w 2) (h .pre-low),
+      high-of (w 1) (w 2) (h .pre-low),
+      low-of (w 3) (w 4) (h .wait-low),
+      high-of (w 3) (w 4) (h .wait-low),
+      low-of (w 5) (w 6) (h .add-low),
+      high-of (w 5) (w 6) (h .add-low),
+      low-of (w 7) (w 8) (h .del-low),
+      high-of (w 7) (w 8) (h .del-low),
+    )
+
+-- word c of the first of some rows
+first-word : (t : List ℕ) → Accepted t → (rest : List ℕ) (a c : ℕ) → c < rowWidth
+    → getD (rowOf t a ++ rest) c 0 ≡ actionWord t a c
+first-word t fits rest a c h = ap (λ (row : List ℕ). getD (row ++ rest) c 0) (row-is t fits a) ∙ at c h
+  where
+    at : (k : ℕ) → k < rowWidth
+        → getD (map (actionWord t a) (0 ∷ 1 ∷ 2 ∷ 3 ∷ 4 ∷ 5 ∷ 6 ∷ 7 ∷ 8 ∷ []) ++ rest) k 0 ≡ actionWord t a k
+    at zero l = refl
+    at (suc zero) l = refl
+    at (suc (suc zero)) l = refl
+    at (suc (suc (suc zero))) l = refl
+    at (suc (suc (suc (suc zero)))) l = refl
+    at (suc (suc (suc (suc (suc zero))))) l = refl
+    at (suc (suc (suc (suc (suc (suc zero)))))) l = refl
+    at (suc (suc (suc (suc (suc (suc (suc zero))))))) l = refl
+    at (suc (suc (suc (suc (suc (suc (suc (suc zero)))))))) l = refl
+    at (suc (suc (suc (suc (suc (suc (suc (suc (suc k))))))))) l = absurd (omega arith)
 
 -- the words of the others
 later-word : (t rest : List ℕ) (a j : ℕ) → getD (rowOf t a ++ rest) (rowWidth + j) 0 ≡ getD rest j 0
@@ -134,20 +162,20 @@ unfolding rowOf
 later-word t rest a j = getD-append-add (rowOf t a) rest j 0
 
 -- word c of row k
-row-word : (t xs : List ℕ) (k c : ℕ) → k < length xs → c < rowWidth
+row-word : (t : List ℕ) → Accepted t → (xs : List ℕ) (k c : ℕ) → k < length xs → c < rowWidth
     → getD (flatten (map (rowOf t) xs)) (rowWidth * k + c) 0 ≡ actionWord t (getD xs k 0) c
 unfolding flatten
-row-word t [] k c l h = absurd (omega arith)
-row-word t (x ∷ xs) zero c l h =
+row-word t fits [] k c l h = absurd (omega arith)
+row-word t fits (x ∷ xs) zero c l h =
     let rest = flatten (map (rowOf t) xs) in
     let e : rowWidth * 0 + c ≡ c = omega arith in
-    ap (λ (j : ℕ). getD (rowOf t x ++ rest) j 0) e ∙ first-word t rest x c h
-row-word t (x ∷ xs) (suc k) c l h =
+    ap (λ (j : ℕ). getD (rowOf t x ++ rest) j 0) e ∙ first-word t fits rest x c h
+row-word t fits (x ∷ xs) (suc k) c l h =
     let rest = flatten (map (rowOf t) xs) in
     let e : rowWidth * suc k + c ≡ rowWidth + (rowWidth * k + c) = omega arith in
     ap (λ (j : ℕ). getD (rowOf t x ++ rest) j 0) e
     ∙ later-word t rest x (rowWidth * k + c)
-    ∙ row-word t xs k c (omega arith) h
+    ∙ row-word t fits xs k c (omega arith) h
 
 rows-length : (t xs : List ℕ) → length (flatten (map (rowOf t) xs)) ≡ rowWidth * length xs
 unfolding flatten rowOf
@@ -180,11 +208,14 @@ module _ (t : List ℕ) (fits : Accepted t) where
   pub grouped-actions : actions (grouped t) ≡ actions t
   grouped-actions = grouped-head 0 2 (omega arith) (omega arith)
 
+  head-mask : (r k : ℕ) → r < 1 + members t → k + 1 < rowWidth → maskIn (grouped t) r k ≡ maskIn t r k
+  head-mask r k h l = ap₂ ofWords (grouped-head r k h (omega arith)) (grouped-head r (k + 1) h l)
+
   pub grouped-initial : initial (grouped t) ≡ initial t
-  grouped-initial = grouped-head 0 3 (omega arith) (omega arith)
+  grouped-initial = head-mask 0 3 (omega arith) (omega arith)
 
   pub grouped-goal : (i : ℕ) → i < members t → goal (grouped t) i ≡ goal t i
-  grouped-goal i h = grouped-head (1 + i) 1 (omega arith) (omega arith)
+  grouped-goal i h = head-mask (1 + i) 1 (omega arith) (omega arith)
 
   pub grouped-length : length (grouped t) ≡ rowWidth * (1 + members t + actions t)
   unfolding grouped
@@ -200,7 +231,7 @@ module _ (t : List ℕ) (fits : Accepted t) where
       omega (arith, head-length, grouped-members) in
       ap (λ (j : ℕ). getD (head ++ rows) j 0) e
       ∙ getD-append-add head rows (rowWidth * k + c) 0
-      ∙ row-word t (order t) k c (omega (arith, order-length t fits)) l
+      ∙ row-word t fits (order t) k c (omega (arith, order-length t fits)) l
 
   -- the task's action that is number k of the grouped task; past the last action k itself
   abbrev pub old : ℕ → ℕ
@@ -242,18 +273,29 @@ module _ (t : List ℕ) (fits : Accepted t) where
 
 -- ---- the check
 
+-- what the check asks of a row of which all words are those of a row of the other task
+module _ (t u : List ℕ) (r s : ℕ) (same : (c : ℕ) → c < rowWidth → word t r c ≡ word u s c) where
+  zeros-same : (k : ℕ) → zerosFrom t r k ≡ zerosFrom u s k
+  unfolding allOf numbersFrom
+  zeros-same k = all-same (rowWidth - k) 0 (omega arith) where
+    all-same : (n j : ℕ) → j + n ≤ rowWidth - k
+        → allOf (λ i. eqb (word t r (k + i)) 0) (numbersFrom j n)
+        ≡ allOf (λ i. eqb (word u s (k + i)) 0) (numbersFrom j n)
+    all-same zero j h = refl
+    all-same (suc n) j h = rw (same (k + j) (omega arith), all-same n (suc j) (omega arith))
+
+  fits-same : (k : ℕ) → k + 1 < rowWidth → facts t ≡ facts u → maskFits t r k ≡ maskFits u s k
+  fits-same k h e = rw (same k (omega arith), same (k + 1) h, e)
+
 goal-row-same : (t : List ℕ) (fits : Accepted t) (i : ℕ) → i < members t → goalRow (grouped t) i ≡ goalRow t i
 unfolding goalRow
 goal-row-same t fits i h =
     let at : (c : ℕ) → c < rowWidth → word (grouped t) (1 + i) c ≡ word t (1 + i) c =
     λ c l. grouped-head t fits (1 + i) c (omega arith) l in
     rw (
-      grouped-facts t fits,
       at 0 (omega arith),
-      at 1 (omega arith),
-      at 2 (omega arith),
-      at 3 (omega arith),
-      at 4 (omega arith),
+      zeros-same (grouped t) t (1 + i) (1 + i) at 3,
+      fits-same (grouped t) t (1 + i) (1 + i) at 1 (omega arith) (grouped-facts t fits),
     )
 
 action-row-same : (t : List ℕ) (fits : Accepted t) (k : ℕ) → k < actions t
@@ -268,6 +310,10 @@ action-row-same t fits k h =
       at 2 (omega arith),
       at 3 (omega arith),
       at 4 (omega arith),
+      at 5 (omega arith),
+      at 6 (omega arith),
+      at 7 (omega arith),
+      at 8 (omega arith),
       grouped-facts t fits,
       grouped-members t fits,
     )
@@ -279,7 +325,7 @@ head-same t fits =
       grouped-facts t fits,
       grouped-members t fits,
       grouped-actions t fits,
-      grouped-head t fits 0 4 (omega arith) (omega arith),
+      zeros-same (grouped t) t 0 0 (λ c l. grouped-head t fits 0 c (omega arith) l) 5,
     )
 
 neither : (r s : ℕ) → r ≡ 0 → s ≡ 0 → r else s ≡ 0
@@ -293,14 +339,16 @@ grouped-accepted t h =
     let (r₁, h₁) = else-both (1 if ltb (length t) rowWidth) _ h in
     let (r₂, h₂) = else-both (2 if not (headFits t)) _ h₁ in
     let (r₃, h₃) = else-both (1 if not (eqb (length t) (rowWidth * (1 + members t + actions t)))) _ h₂ in
-    let (r₄, h₄) = else-both (4 if not (below (facts t) (initial t))) _ h₃ in
+    let (r₄, h₄) = else-both (4 if not (maskFits t 0 3)) _ h₃ in
     let (goals, rows) = else-both (firstRefusal (goalRow t) (upTo (members t))) _ h₄ in
     let long : length g ≡ length t = grouped-length t fits ∙ sym (fits .size) in
     let size : length g ≡ rowWidth * (1 + members g + actions g) =
     omega (arith, grouped-length t fits, grouped-members t fits, grouped-actions t fits) in
     let sized : 1 if not (eqb (length g) (rowWidth * (1 + members g + actions g))) ≡ 0 =
     rw (eq-eqb (length g) (rowWidth * (1 + members g + actions g)) size) in
-    let begins : 4 if not (below (facts g) (initial g)) ≡ 0 = rw (grouped-facts t fits, grouped-initial t fits) r₄ in
+    let head : (c : ℕ) → c < rowWidth → word g 0 c ≡ word t 0 c = λ c l. grouped-head t fits 0 c (omega arith) l in
+    let begins : 4 if not (maskFits g 0 3) ≡ 0 =
+    rw (fits-same g t 0 0 head 3 (omega arith) (grouped-facts t fits)) r₄ in
     neither _ _ (ap (λ (n : ℕ). 1 if ltb n rowWidth) long ∙ r₁)
     (neither _ _ (ap (λ (b : Bool). 2 if not b) (head-same t fits) ∙ r₂)
     (neither _ _ sized

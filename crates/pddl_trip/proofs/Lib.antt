@@ -1,4 +1,3 @@
-pub mod Checked
 pub mod Grammar
 pub mod Lexed
 pub mod Masks

@@ -1,50 +1,27 @@
 -- Masks of the facts that are written, and names that are told apart. Assumes nothing.
 use mathlib.Core.Path.{_≡_, refl, sym, ap, ap₂, _∙_}
 use mathlib.Core.Bool.{Bool, true, false, _||_}
-use mathlib.Core.Logic.{_⊎_, inl, inr, ⊎-elim}
+use mathlib.Core.Logic.{⊎-elim}
 use mathlib.Core.List.{List, [], _∷_, map, List·Memᴰ, List·Memᴰ·head, List·Memᴰ·tail}
-use Prim.Native.Nat.{ℕ, zero, suc, _+_, _*_, _/_, _%_, _^_, _≤_, _<_}
-use native.Mathlib.Nat.{pow-suc, div-one}
+use Prim.Native.Nat.{ℕ, zero, suc, _+_, _*_, _^_, _≤_, _<_}
+use native.Mathlib.Nat.{pow-suc}
 use native.Mathlib.Omega.{arith}
 use lib.Bits.{bitOr}
 use lib.Dec.{eqb}
-use borrow.Author.Tests.{eqb-true, eqb-false, eq-eqb, ne-eqb, lt-ltb}
+use borrow.Author.Tests.{eqb-true, eq-eqb, lt-ltb}
 use Rattle.semantics.specs.Base.{numbersFrom, upTo, anyOf}
 use Rattle.semantics.specs.Mask.{has, below}
 use Rattle.semantics.specs.Text.{number, digits}
 use Rattle.semantics.specs.Pddl.{same, bitFrom, maskOf}
 use Rattle.semantics.specs.PddlWrite.{standing}
-use Rattle.theory.proofs.Lists.{bool-cases, test-ext, true-not-false, not-true-false, and-elim, lt-or-ge}
+use Rattle.theory.proofs.Lists.{test-ext, true-not-false, not-true-false, and-elim, lt-or-ge}
 use Rattle.theory.proofs.Lists.{true-any, any-true, filter-mem, mem-filter, upTo-mem, mem-upTo}
-use Rattle.theory.proofs.Masks.{has-suc, or-has, zero-has, mask-ext, below-has}
+use Rattle.theory.proofs.Masks.{or-has, zero-has, mask-ext, below-has}
 use Rattle.text.proofs.RoundTrip.{word-number}
+use Rattle.pddl_theory.specs.Inner.Limits.{mostFacts}
 use Rattle.pddl_theory.proofs.Sets.{same-refl, same-eq}
+use Rattle.pddl_write.proofs.Alone.{one-has}
 use Rattle.pddl_trip.proofs.Lexed.{factName}
-
--- ---- one fact
-
-last-has : (x : ℕ) → x % 2 ≡ 1 → has 0 x ≡ true
-unfolding has
-last-has x e = rw (div-one, e)
-
-last-lacks : (x : ℕ) → x % 2 ≡ 0 → has 0 x ≡ false
-unfolding has
-last-lacks x e = rw (div-one, e)
-
--- fact g in the mask of f alone
-pub one-has : (f g : ℕ) → has g (2 ^ f) ≡ eqb g f
-one-has zero zero = last-has (2 ^ 0) refl
-one-has zero (suc g) = has-suc g (2 ^ 0) ∙ zero-has g ∙ sym (ne-eqb (suc g) 0 (λ e. omega arith))
-one-has (suc f) zero =
-    last-lacks (2 ^ suc f) (omega (arith, pow-suc 2 f)) ∙ sym (ne-eqb 0 (suc f) (λ e. omega arith))
-one-has (suc f) (suc g) =
-    let e : 2 ^ suc f / 2 ≡ 2 ^ f = omega (arith, pow-suc 2 f) in
-    has-suc g (2 ^ suc f) ∙ ap (has g) e ∙ one-has f g ∙ step (bool-cases (eqb g f))
-  where
-    step : (eqb g f ≡ true) ⊎ (eqb g f ≡ false) → eqb g f ≡ eqb (suc g) (suc f)
-    step (inl h) = h ∙ sym (eq-eqb (suc g) (suc f) (ap suc (eqb-true g f h)))
-    step (inr h) =
-        h ∙ sym (ne-eqb (suc g) (suc f) (λ e. let q : g ≡ f = omega arith in eqb-false g f h q))
 
 -- ---- the mask of a list of facts
 
@@ -93,7 +70,7 @@ names-apart b x y h l n =
 
 -- ---- bits by name
 
-bit-from : (k c f : ℕ) → k ≤ f → f < k + c → k + c ≤ 64
+bit-from : (k c f : ℕ) → k ≤ f → f < k + c → k + c ≤ mostFacts
     → bitFrom (2 ^ k) (map factName (numbersFrom k c)) (factName f) ≡ 2 ^ f
 unfolding bitFrom numbersFrom
 bit-from k zero f h l m = absurd (omega arith)
@@ -110,10 +87,10 @@ bit-from k (suc c) f h l m =
     ∙ rw (same-refl (factName k)) (ap (λ (q : ℕ). 2 ^ q) e))
     (lt-or-ge k f)
 
-pub bit-of : (F f : ℕ) → F ≤ 64 → f < F → bitFrom 1 (map factName (upTo F)) (factName f) ≡ 2 ^ f
+pub bit-of : (F f : ℕ) → F ≤ mostFacts → f < F → bitFrom 1 (map factName (upTo F)) (factName f) ≡ 2 ^ f
 bit-of F f h l = bit-from 0 F f (omega arith) (omega arith) (omega arith)
 
-pub mask-of : (F : ℕ) → F ≤ 64 → (fs : List ℕ) → ((f : ℕ) → List·Memᴰ f fs → f < F)
+pub mask-of : (F : ℕ) → F ≤ mostFacts → (fs : List ℕ) → ((f : ℕ) → List·Memᴰ f fs → f < F)
     → maskOf (map factName (upTo F)) (map factName fs) ≡ maskFrom fs
 unfolding maskOf maskFrom
 mask-of F few [] h = refl
@@ -126,7 +103,7 @@ unfolding standing
 standing-below F x f m = upTo-mem F (filter-mem (λ g. has g x) (upTo F) m .0)
 
 -- a mask is made up by the names of its facts
-pub written-mask : (F x : ℕ) → F ≤ 64 → below F x ≡ true
+pub written-mask : (F x : ℕ) → F ≤ mostFacts → below F x ≡ true
     → maskOf (map factName (upTo F)) (map factName (standing F x)) ≡ x
 written-mask F x few h =
     mask-of F few (standing F x) (λ f m. standing-below F x f m) ∙ standing-mask F x h

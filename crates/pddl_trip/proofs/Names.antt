@@ -16,6 +16,7 @@ use Rattle.semantics.specs.PddlWrite.{own, order}
 use Rattle.theory.proofs.Lists.{and-intro, or-left, or-right, lt-or-ge, upTo-length}
 use Rattle.theory.proofs.Accepted.{accepted}
 use Rattle.text.proofs.Lists.{all-both}
+use Rattle.pddl_theory.specs.Inner.Limits.{mostFacts}
 use Rattle.pddl_theory.proofs.RegroupedWords.{order-length}
 use Rattle.pddl_trip.proofs.Lexed.{factName, actionName, memberName, factsIn}
 use Rattle.pddl_trip.proofs.Grammar.{holds, lacks, actionOf, actionsFrom, memberOf, membersFrom}
@@ -179,7 +180,7 @@ module _ (t : List ℕ) where
     pub law-named : named law (waitWords t) ≡ true
     unfolding named order
     law-named =
-        let few : facts t ≤ 64 = accepted t c .few-facts in
+        let few : facts t ≤ mostFacts = accepted t c .few-facts in
         let acts : actions t ≤ 256 = accepted t c .few-actions in
         let sum : length (flatten (map (own t) (upTo (members t)))) ≡ actions t = order-length t (accepted t c) in
         and-intro (and-intro
@@ -194,7 +195,7 @@ module _ (t : List ℕ) where
     law-limits =
         let a = accepted t c in
         and-intro (and-intro
-        (le-leb (length (predicatesOf law)) 64
+        (le-leb (length (predicatesOf law)) mostFacts
         (omega (arith, ap length law-predicates, predicates-count, a .few-facts)))
         (le-leb (length law) 8 (omega (arith, law-count, a .few-members))))
         (le-leb (length (actionsOf law)) 256 (omega (arith, actions-count, a .few-actions)))

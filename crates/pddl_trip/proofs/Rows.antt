@@ -1,34 +1,32 @@
--- The words of a task and of its grouped task, row by row; the check accepts both. Assumes nothing.
-use mathlib.Core.Path.{_≡_, refl, ap, ap₂, _∙_}
-use mathlib.Core.List.{List, [], _∷_, _++_, map, flatten}
-use Prim.Native.Nat.{ℕ, zero, suc, _+_, _*_, _≤_, _<_}
+-- The words of a task, row by row; what the check has said of row 0 and of the goal rows. Assumes nothing.
+use mathlib.Core.Path.{_≡_, refl, sym, ap, ap₂, _∙_}
+use mathlib.Core.Bool.{true}
+use mathlib.Core.List.{List, _++_, map, flatten}
+use Prim.Native.Nat.{ℕ, zero, suc, _+_, _-_, _*_, _≤_, _<_}
 use native.Mathlib.Omega.{arith}
-use lib.ListN.{length, getD, take, drop}
-use lib.Seq.{drop-cons, take-add, drop-drop}
-use Rattle.semantics.specs.Base.{numbersFrom}
-use Rattle.semantics.specs.Task.{rowWidth, word}
+use lib.ListN.{length, getD, take, drop, length-map, length-drop}
+use lib.Seq.{ext-getD, take-add, drop-drop, getD-take, getD-drop, length-take-le}
+use lib.Dec.{eqb}
+use borrow.Author.Tests.{eqb-true}
+use Rattle.semantics.specs.Base.{numbersFrom, upTo}
+use Rattle.semantics.specs.Task.{rowWidth, word, zerosFrom}
+use Rattle.theory.proofs.Lists.{all-true, mem-upTo, upTo-length, getD-upTo}
 
 -- ---- rows of a list
 
 abbrev pub rowAt : List ℕ → ℕ → List ℕ
-rowAt t r = word t r 0 ∷ word t r 1 ∷ word t r 2 ∷ word t r 3 ∷ word t r 4 ∷ []
+rowAt t r = map (word t r) (upTo rowWidth)
 
-five : (t : List ℕ) (p : ℕ) → p + 5 ≤ length t
-    → take 5 (drop p t)
-    ≡ getD t (p + 0) 0 ∷ getD t (p + 1) 0 ∷ getD t (p + 2) 0 ∷ getD t (p + 3) 0 ∷ getD t (p + 4) 0 ∷ []
-five t p h =
-    let e₀ : p ≡ p + 0 = omega arith in
-    let e₂ : suc (p + 1) ≡ p + 2 = omega arith in
-    let e₃ : suc (p + 2) ≡ p + 3 = omega arith in
-    let e₄ : suc (p + 3) ≡ p + 4 = omega arith in
-    let s : (q r : ℕ) → q < length t → suc q ≡ r → drop q t ≡ getD t q 0 ∷ drop r t =
-    λ q r l e. drop-cons t q 0 l ∙ ap (λ (x : ℕ). getD t q 0 ∷ drop x t) e in
-    ap (take 5)
-    (ap (λ (x : ℕ). drop x t) e₀ ∙ s (p + 0) (p + 1) (omega arith) (omega arith)
-    ∙ ap (λ (l : List ℕ). getD t (p + 0) 0 ∷ l) (s (p + 1) (p + 2) (omega arith) e₂
-    ∙ ap (λ (l : List ℕ). getD t (p + 1) 0 ∷ l) (s (p + 2) (p + 3) (omega arith) e₃
-    ∙ ap (λ (l : List ℕ). getD t (p + 2) 0 ∷ l) (s (p + 3) (p + 4) (omega arith) e₄
-    ∙ ap (λ (l : List ℕ). getD t (p + 3) 0 ∷ l) (s (p + 4) (p + 5) (omega arith) (omega arith))))))
+-- w words from word p on
+window : (t : List ℕ) (p w : ℕ) → p + w ≤ length t → take w (drop p t) ≡ map (λ k. getD t (p + k) 0) (upTo w)
+window t p w h =
+    let its : ℕ → ℕ = λ k. getD t (p + k) 0 in
+    let long : length (take w (drop p t)) ≡ w = length-take-le w (drop p t) (omega (arith, length-drop p t)) in
+    let same : length (map its (upTo w)) ≡ w = length-map (upTo w) its ∙ upTo-length w in
+    ext-getD 0 (take w (drop p t)) (map its (upTo w)) (long ∙ sym same)
+    (λ k l.
+    let b : k < w = omega (arith, long) in
+    getD-take w (drop p t) k 0 b ∙ getD-drop p t k 0 ∙ sym (getD-upTo its w k 0 b))
 
 -- c rows from row j on
 pub rows-from : (t : List ℕ) (j c : ℕ) → rowWidth * (j + c) ≤ length t
@@ -36,9 +34,15 @@ pub rows-from : (t : List ℕ) (j c : ℕ) → rowWidth * (j + c) ≤ length t
 unfolding flatten numbersFrom
 rows-from t j zero h = refl
 rows-from t j (suc c) h =
-    let e : rowWidth * suc c ≡ 5 + rowWidth * c = omega arith in
-    let p : rowWidth * j + 5 ≡ rowWidth * suc j = omega arith in
-    ap (λ (x : ℕ). take x (drop (rowWidth * j) t)) e ∙ take-add 5 (rowWidth * c) (drop (rowWidth * j) t)
-    ∙ ap₂ (λ (xs ys : List ℕ). xs ++ ys) (five t (rowWidth * j) (omega arith))
-    (ap (take (rowWidth * c)) (drop-drop 5 (rowWidth * j) t ∙ ap (λ (x : ℕ). drop x t) p)
+    let e : rowWidth * suc c ≡ rowWidth + rowWidth * c = omega arith in
+    let p : rowWidth * j + rowWidth ≡ rowWidth * suc j = omega arith in
+    ap (λ (x : ℕ). take x (drop (rowWidth * j) t)) e ∙ take-add rowWidth (rowWidth * c) (drop (rowWidth * j) t)
+    ∙ ap₂ (λ (xs ys : List ℕ). xs ++ ys) (window t (rowWidth * j) rowWidth (omega arith))
+    (ap (take (rowWidth * c)) (drop-drop rowWidth (rowWidth * j) t ∙ ap (λ (x : ℕ). drop x t) p)
     ∙ rows-from t (suc j) c (omega arith))
+
+-- ---- a row's last words
+
+pub zero-word : (t : List ℕ) (r k : ℕ) → zerosFrom t r k ≡ true → (j : ℕ) → j < rowWidth - k → word t r (k + j) ≡ 0
+zero-word t r k h j l =
+    eqb-true (word t r (k + j)) 0 (all-true (λ i. eqb (word t r (k + i)) 0) h (mem-upTo {i = j} {n = rowWidth - k} l))

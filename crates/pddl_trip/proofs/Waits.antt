@@ -18,6 +18,7 @@ use Rattle.theory.proofs.Accepted.{accepted}
 use Rattle.text.specs.Inner.Written.{row, isWord}
 use Rattle.text.proofs.Lists.{wordsOf, words-text}
 use Rattle.text.proofs.RoundTrip.{row-record, row-words, row-line}
+use Rattle.pddl_theory.specs.Inner.Limits.{mostFacts}
 use Rattle.pddl_write.proofs.Laws.{numbered-append}
 use Rattle.pddl_theory.proofs.RegroupedWords.{order-length}
 use Rattle.pddl_trip.proofs.Masks.{maskFrom, standing-mask, standing-below}
@@ -79,7 +80,7 @@ module _ (t : List ℕ) where
   waitWords = numbered actionPairs 0 (order t)
 
   module _ (c : check t ≡ 0) where
-    few : facts t ≤ 64
+    few : facts t ≤ mostFacts
     few = accepted t c .few-facts
 
     lines-numbered : (k : ℕ) (xs : List ℕ) → k + length xs ≤ 2 ^ 64

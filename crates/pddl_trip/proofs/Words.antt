@@ -8,12 +8,15 @@ use lib.ListN.{length, take, length-append}
 use borrow.Author.Tests.{eqb-true}
 use Rattle.semantics.specs.Base.{numbersFrom, upTo, collect}
 use Rattle.semantics.specs.Mask.{below}
+use Rattle.semantics.specs.Words as Words
+use Rattle.semantics.specs.Words.{rowWords}
 use Rattle.semantics.specs.Task.{rowWidth, word, facts, members, actions, initial, goal, owner, pre, wait, add, del}
 use Rattle.semantics.specs.Task.{check}
 use Rattle.semantics.specs.Pddl.{maskOf, factsOf, factMask, waitMask, goalRows, ownRows, actionRows, wordsOf}
 use Rattle.semantics.specs.Pddl.{initiallyOf, actionsOf}
 use Rattle.semantics.specs.PddlWrite.{own, order, rowOf, grouped, numbered}
 use Rattle.theory.proofs.Lists.{filter-mem}
+use Rattle.theory.proofs.Words.{low-of, high-of}
 use Rattle.theory.proofs.Accepted.{accepted}
 use Rattle.pddl_write.specs.Inner.Put.{isOwn}
 use Rattle.pddl_trip.proofs.Lexed.{factName, factsIn}
@@ -22,8 +25,7 @@ use Rattle.pddl_trip.proofs.Masks.{written-mask}
 use Rattle.pddl_trip.proofs.Waits.{actionPairs, waitWords, wait-at}
 use Rattle.pddl_trip.proofs.Names.{predicates, law, law-count, predicates-count, actions-count, law-initially}
 use Rattle.pddl_trip.proofs.Names.{actions-length}
-use Rattle.pddl_trip.proofs.Rows.{rowAt, rows-from}
-use Rattle.pddl_trip.proofs.Checked.{passed, goal-words, last-word}
+use Rattle.pddl_trip.proofs.Rows.{rowAt, rows-from, zero-word}
 
 -- ---- the facts of literals
 
@@ -59,7 +61,7 @@ unfolding own
 own-owner t i a m = eqb-true (owner t a) i (filter-mem (isOwn t i) (upTo (actions t)) m .1)
 
 abbrev goalAt : List ℕ → ℕ → List ℕ
-goalAt t i = i ∷ goal t i ∷ 0 ∷ 0 ∷ 0 ∷ []
+goalAt t i = rowWords i (goal t i) 0 0 0
 
 module _ (t : List ℕ) (c : check t ≡ 0) where
   abbrev P : List (List ℕ)
@@ -69,14 +71,15 @@ module _ (t : List ℕ) (c : check t ≡ 0) where
   mask x h = written-mask (facts t) x (accepted t c .few-facts) h
 
   goal-mask : (i : ℕ) → i < members t → factMask P false (map holds (factsIn t (goal t i))) ≡ goal t i
-  goal-mask i h = ap (maskOf P) (only-facts (factsIn t (goal t i))) ∙ mask (goal t i) (accepted t c .goal-below i h)
+  goal-mask i h =
+      ap (maskOf P) (only-facts (factsIn t (goal t i))) ∙ mask (goal t i) (accepted t c .goal-fits i h .below)
 
   goal-rows : (i n k : ℕ) → i + n ≤ members t
       → goalRows P i (membersFrom t k (numbersFrom i n)) ≡ flatten (map (goalAt t) (numbersFrom i n))
   unfolding goalRows membersFrom numbersFrom flatten
   goal-rows i zero k h = refl
   goal-rows i (suc n) k h =
-      ap₂ (λ (x : ℕ) (l : List ℕ). i ∷ x ∷ 0 ∷ 0 ∷ 0 ∷ l) (goal-mask i (omega arith))
+      ap₂ (λ (x : ℕ) (l : List ℕ). rowWords i x 0 0 0 ++ l) (goal-mask i (omega arith))
       (goal-rows (suc i) n (k + length (own t i)) (omega arith))
 
   -- the waits of the action behind those of `front`
@@ -110,12 +113,12 @@ module _ (t : List ℕ) (c : check t ≡ 0) where
       ≡ flatten (map (rowOf t) xs) =
       ap (λ (k : ℕ). ownRows P (waitWords t) i k (actionsFrom t k xs)) n
       ∙ own-rows i (front ++ (a ∷ [])) xs back (λ b q. h b (List·Memᴰ·tail q)) e′ in
-      ap₂ (λ (x y : ℕ). x ∷ y ∷ waitMask (length front) (waitWords t)
-      ∷ factMask P false (map holds adds ++ map lacks dels) ∷ factMask P true (map holds adds ++ map lacks dels)
-      ∷ ownRows P (waitWords t) i (suc (length front)) (actionsFrom t (suc (length front)) xs)) o p
-      ∙ ap₂ (λ (x y : ℕ). owner t a ∷ pre t a ∷ x ∷ y ∷ factMask P true (map holds adds ++ map lacks dels)
-      ∷ ownRows P (waitWords t) i (suc (length front)) (actionsFrom t (suc (length front)) xs)) w m
-      ∙ ap₂ (λ (x : ℕ) (l : List ℕ). owner t a ∷ pre t a ∷ wait t a ∷ add t a ∷ x ∷ l) d rest
+      ap₂ (λ (x y : ℕ). rowWords x y (waitMask (length front) (waitWords t))
+      (factMask P false (map holds adds ++ map lacks dels)) (factMask P true (map holds adds ++ map lacks dels))
+      ++ ownRows P (waitWords t) i (suc (length front)) (actionsFrom t (suc (length front)) xs)) o p
+      ∙ ap₂ (λ (x y : ℕ). rowWords (owner t a) (pre t a) x y (factMask P true (map holds adds ++ map lacks dels))
+      ++ ownRows P (waitWords t) i (suc (length front)) (actionsFrom t (suc (length front)) xs)) w m
+      ∙ ap₂ (λ (x : ℕ) (l : List ℕ). rowWords (owner t a) (pre t a) (wait t a) (add t a) x ++ l) d rest
 
   -- the rows of the members is, whose actions stand in the order behind those of `front`
   action-rows : (i n : ℕ) (front : List ℕ) → order t ≡ front ++ flatten (map (own t) (numbersFrom i n))
@@ -137,26 +140,51 @@ module _ (t : List ℕ) (c : check t ≡ 0) where
 
   -- ---- row 0 and the goal rows
 
-  head-row : rowAt t 0 ≡ facts t ∷ members t ∷ actions t ∷ initial t ∷ 0 ∷ []
-  head-row = ap (λ (x : ℕ). facts t ∷ members t ∷ actions t ∷ initial t ∷ x ∷ []) (last-word t (passed t c .head))
+  abbrev headRow : List ℕ
+  headRow = facts t ∷ members t ∷ actions t ∷ (Words.wordsOf (initial t) ++ (0 ∷ 0 ∷ 0 ∷ 0 ∷ []))
 
-  goal-row : (i : ℕ) → i < members t → rowAt t (suc i) ≡ goalAt t i
+  head-row : rowAt t 0 ≡ headRow
+  unfolding numbersFrom
+  head-row =
+      let fits = accepted t c in
+      let zero-at : (j : ℕ) → j < 4 → word t 0 (5 + j) ≡ 0 = zero-word t 0 5 (fits .head-zeros) in
+      rw (
+        low-of (word t 0 3) (word t 0 4) (fits .initial-low),
+        high-of (word t 0 3) (word t 0 4) (fits .initial-low),
+        zero-at 0 (omega arith),
+        zero-at 1 (omega arith),
+        zero-at 2 (omega arith),
+        zero-at 3 (omega arith),
+      )
+
+  goal-row : (i : ℕ) → i < members t → rowAt t (1 + i) ≡ goalAt t i
+  unfolding numbersFrom
   goal-row i h =
-      let w = goal-words t i (passed t c .goals i h) in
-      let e : suc i ≡ 1 + i = omega arith in
-      ap (rowAt t) e
-      ∙ ap₂ (λ (x y : ℕ). x ∷ goal t i ∷ y ∷ word t (1 + i) 3 ∷ word t (1 + i) 4 ∷ []) (w .0 .0) (w .0 .1)
-      ∙ ap₂ (λ (x y : ℕ). i ∷ goal t i ∷ 0 ∷ x ∷ y ∷ []) (w .1 .0) (w .1 .1)
+      let fits = accepted t c .goal-fits i h in
+      let zero-at : (j : ℕ) → j < 6 → word t (1 + i) (3 + j) ≡ 0 = zero-word t (1 + i) 3 (fits .zeros) in
+      rw (
+        low-of (word t (1 + i) 1) (word t (1 + i) 2) (fits .low),
+        high-of (word t (1 + i) 1) (word t (1 + i) 2) (fits .low),
+        fits .number,
+        zero-at 0 (omega arith),
+        zero-at 1 (omega arith),
+        zero-at 2 (omega arith),
+        zero-at 3 (omega arith),
+        zero-at 4 (omega arith),
+        zero-at 5 (omega arith),
+      )
 
   goal-part : (i n : ℕ) → i + n ≤ members t
       → flatten (map (rowAt t) (numbersFrom (suc i) n)) ≡ flatten (map (goalAt t) (numbersFrom i n))
   unfolding flatten numbersFrom
   goal-part i zero h = refl
   goal-part i (suc n) h =
-      ap₂ (λ (xs ys : List ℕ). xs ++ ys) (goal-row i (omega arith)) (goal-part (suc i) n (omega arith))
+      let e : suc i ≡ 1 + i = omega arith in
+      ap₂ (λ (xs ys : List ℕ). xs ++ ys) (ap (rowAt t) e ∙ goal-row i (omega arith))
+      (goal-part (suc i) n (omega arith))
 
   front-rows : take (rowWidth * (1 + members t)) t
-      ≡ facts t ∷ members t ∷ actions t ∷ initial t ∷ 0 ∷ flatten (map (goalAt t) (upTo (members t)))
+      ≡ headRow ++ flatten (map (goalAt t) (upTo (members t)))
   unfolding flatten numbersFrom
   front-rows =
       let e : 1 + members t ≡ suc (members t) = omega arith in
@@ -171,10 +199,11 @@ module _ (t : List ℕ) (c : check t ≡ 0) where
   law-words =
       let goals = goalRows P 0 (law t) in
       let rows = actionRows P (waitWords t) 0 0 (law t) in
-      ap₂ (λ (x y : ℕ). x ∷ y ∷ length (actionsOf (law t)) ∷ maskOf P (initiallyOf (law t)) ∷ 0 ∷ (goals ++ rows))
-      (predicates-count t) (law-count t)
-      ∙ ap₂ (λ (x y : ℕ). facts t ∷ members t ∷ x ∷ y ∷ 0 ∷ (goals ++ rows)) (actions-count t c)
+      ap₂ (λ (x y : ℕ). x ∷ y ∷ length (actionsOf (law t)) ∷ (Words.wordsOf (maskOf P (initiallyOf (law t)))
+      ++ (0 ∷ 0 ∷ 0 ∷ 0 ∷ (goals ++ rows)))) (predicates-count t) (law-count t)
+      ∙ ap₂ (λ (x y : ℕ). facts t ∷ members t ∷ x ∷ (Words.wordsOf y ++ (0 ∷ 0 ∷ 0 ∷ 0 ∷ (goals ++ rows))))
+      (actions-count t c)
       (ap (maskOf P) (law-initially t c) ∙ mask (initial t) (accepted t c .initial-below))
-      ∙ ap₂ (λ (xs ys : List ℕ). facts t ∷ members t ∷ actions t ∷ initial t ∷ 0 ∷ (xs ++ ys))
+      ∙ ap₂ (λ (xs ys : List ℕ). headRow ++ (xs ++ ys))
       (goal-rows 0 (members t) 0 (omega arith)) (action-rows 0 (members t) [] refl)
       ∙ ap (λ (xs : List ℕ). xs ++ flatten (map (rowOf t) (order t))) (sym front-rows)

@@ -1,18 +1,21 @@
 -- The pass over the records of a waits text: what is known of the waits before offset i. Assumes nothing.
 use mathlib.Core.Path.{_≡_, refl, sym, ap, subst, _∙_}
 use mathlib.Core.Bool.{Bool, true, false, cond, true≢false, _&&_}
-use mathlib.Core.List.{List, [], map}
-use Prim.Native.Nat.{ℕ, _-_, _<_, max}
+use mathlib.Core.List.{List, []}
+use Prim.Native.Nat.{ℕ, _+_, _-_, _<_, max}
 use native.Mathlib.Omega.{arith}
-use lib.ListN.{length, getD, drop, length-map}
-use lib.Seq.{ext-getD}
+use lib.ListN.{length, drop}
 use lib.Bits.{bitOr, or-zero-l, or-zero-r}
 use lib.Dec.{ltb}
-use Rattle.theory.proofs.Lists.{and-elim, upTo-length, getD-upTo, getD-zeros}
+use Rattle.theory.proofs.Lists.{and-elim, getD-zeros}
 use Rattle.theory.proofs.Loops.{Rest, rest-begin}
-use Rattle.semantics.specs.Base.{upTo, zeroed}
+use Rattle.semantics.specs.Base.{zeroed}
+use Rattle.semantics.specs.Words.{statesIn, wordsFor}
 use Rattle.semantics.specs.Text.{textWords}
 use Rattle.semantics.specs.Pddl.{waitsKnown, waitMask}
+use Rattle.mask.specs.Inner.Stored.{maskAt}
+use Rattle.pddl_theory.specs.Inner.Limits.{mostFacts}
+use Rattle.pddl_words.specs.Inner.Built.{Waits}
 use Rattle.pddl_waits.proofs.Waits.{known-both, known-max}
 use Rattle.pddl_waits.proofs.Filling.{added}
 use Rattle.pddl_waits.specs.Inner.Wait.{inPairs, Next, waitMeans}
@@ -37,8 +40,8 @@ pub record Before (waits table₀ table : List ℕ) (some : Bool) (action fact i
   none : some ≡ false → (action ≡ 0) × (fact ≡ 0)
   known : (m F : ℕ) → waitsKnown m F (textWords waits)
       ≡ cond some (ltb action m && ltb fact F) true && waitsKnown m F (textWords (drop i waits))
-  each : waitsKnown (length table) 64 (textWords waits) ≡ true → (b : ℕ)
-      → bitOr (getD table b 0) (waitMask b (textWords (drop i waits))) ≡ waitMask b (textWords waits)
+  each : waitsKnown (statesIn (length table)) mostFacts (textWords waits) ≡ true → (b : ℕ)
+      → bitOr (maskAt table b) (waitMask b (textWords (drop i waits))) ≡ waitMask b (textWords waits)
 
 pub begin : (waits table : List ℕ) → table ≡ zeroed table → Before waits table table false 0 0 0
 begin waits table z = record {
@@ -48,9 +51,15 @@ begin waits table z = record {
   known = λ m F. refl;
   each = λ _ b.
       ap (λ (x : ℕ). bitOr x (waitMask b (textWords waits)))
-      (ap (λ (t : List ℕ). getD t b 0) z ∙ getD-zeros (length table) b)
+      (zero-mask b)
       ∙ or-zero-l (waitMask b (textWords waits));
 }
+  where
+    zero-mask : (b : ℕ) → maskAt table b ≡ 0
+    zero-mask b =
+        let none : maskAt (zeroed table) b ≡ 0 =
+        rw (getD-zeros (length table) (wordsFor b), getD-zeros (length table) (wordsFor b + 1)) in
+        ap (λ (t : List ℕ). maskAt t b) z ∙ none
 
 module _ {waits table₀ table : List ℕ} {some : Bool} {action fact i : ℕ}
     (s : Before waits table₀ table some action fact i) (r : Wait) (means : waitMeans waits i r) where
@@ -58,12 +67,14 @@ module _ {waits table₀ table : List ℕ} {some : Bool} {action fact i : ℕ}
     here : Next waits i a f j
     here = there r means a f j e
 
-    both : waitsKnown (length table) 64 (textWords waits) ≡ true → (a < length table) × (f < 64)
+    both : waitsKnown (statesIn (length table)) mostFacts (textWords waits) ≡ true
+        → (a < statesIn (length table)) × (f < mostFacts)
     both h =
-        known-both (length table) 64 a f (textWords (drop j waits))
-        (ap (waitsKnown (length table) 64) (sym (here .words))
-        ∙ and-elim (cond some (ltb action (length table) && ltb fact 64) true)
-        (waitsKnown (length table) 64 (textWords (drop i waits))) (sym (s .known (length table) 64) ∙ h) .1)
+        let n : ℕ = statesIn (length table) in
+        known-both n mostFacts a f (textWords (drop j waits))
+        (ap (waitsKnown n mostFacts) (sym (here .words))
+        ∙ and-elim (cond some (ltb action n && ltb fact mostFacts) true)
+        (waitsKnown n mostFacts (textWords (drop i waits))) (sym (s .known n mostFacts) ∙ h) .1)
 
     known-on : (m F : ℕ) → waitsKnown m F (textWords waits)
         ≡ (ltb (max action a) m && ltb (max fact f) F) && waitsKnown m F (textWords (drop j waits))
@@ -73,16 +84,16 @@ module _ {waits table₀ table : List ℕ} {some : Bool} {action fact i : ℕ}
         ∙ known-max action fact a f m F (textWords (drop j waits)) some (s .none)
 
     module _ (after : List ℕ) (t : AddedIn table a f after) where
-      each-on : waitsKnown (length after) 64 (textWords waits) ≡ true → (b : ℕ)
-          → bitOr (getD after b 0) (waitMask b (textWords (drop j waits))) ≡ waitMask b (textWords waits)
+      each-on : waitsKnown (statesIn (length after)) mostFacts (textWords waits) ≡ true → (b : ℕ)
+          → bitOr (maskAt after b) (waitMask b (textWords (drop j waits))) ≡ waitMask b (textWords waits)
       each-on h b =
-          let k : waitsKnown (length table) 64 (textWords waits) ≡ true =
-          ap (λ (n : ℕ). waitsKnown n 64 (textWords waits)) (sym (t .size)) ∙ h in
+          let k : waitsKnown (statesIn (length table)) mostFacts (textWords waits) ≡ true =
+          ap (λ (n : ℕ). waitsKnown (statesIn n) mostFacts (textWords waits)) (sym (t .size)) ∙ h in
           let below = both k in
-          ap (λ (x : List ℕ). bitOr (getD x b 0) (waitMask b (textWords (drop j waits))))
+          ap (λ (x : List ℕ). bitOr (maskAt x b) (waitMask b (textWords (drop j waits))))
           (t .here (below .0) (below .1))
           ∙ added table a f b (textWords (drop j waits)) (below .0)
-          ∙ ap (λ (ws : List ℕ). bitOr (getD table b 0) (waitMask b ws)) (sym (here .words))
+          ∙ ap (λ (ws : List ℕ). bitOr (maskAt table b) (waitMask b ws)) (sym (here .words))
           ∙ s .each k b
 
       pub onward : (x y : ℕ) → x ≡ max action a → y ≡ max fact f → Before waits table₀ after true x y j
@@ -109,21 +120,16 @@ module _ {waits table₀ table : List ℕ} {some : Bool} {action fact i : ℕ}
         and-true true = refl
         and-true false = refl
 
-    module _ (h : waitsKnown (length table) 64 (textWords waits) ≡ true) where
-      each-end : (b : ℕ) → getD table b 0 ≡ waitMask b (textWords waits)
+    module _ (h : waitsKnown (statesIn (length table)) mostFacts (textWords waits) ≡ true) where
+      filled : Waits (textWords waits) table
       unfolding waitMask
-      each-end b =
-          sym (or-zero-r (getD table b 0))
-          ∙ ap (λ (ws : List ℕ). bitOr (getD table b 0) (waitMask b ws)) (sym (ended .1))
-          ∙ s .each h b
-
-      filled : table ≡ map (λ b. waitMask b (textWords waits)) (upTo (length table))
       filled =
-          let mask : ℕ → ℕ = λ b. waitMask b (textWords waits) in
-          let many : length (map mask (upTo (length table))) ≡ length table =
-          length-map (upTo (length table)) mask ∙ upTo-length (length table) in
-          ext-getD 0 table (map mask (upTo (length table))) (sym many)
-          (λ b l. each-end b ∙ sym (getD-upTo mask (length table) b 0 (omega arith)))
+          record {
+            each = λ b _.
+                sym (or-zero-r (maskAt table b))
+                ∙ ap (λ (ws : List ℕ). bitOr (maskAt table b) (waitMask b ws)) (sym (ended .1))
+                ∙ s .each h b;
+          }
 
     pub end : WaitsIn waits table (record { good = true; some = some; action = action; fact = fact })
     end = record {

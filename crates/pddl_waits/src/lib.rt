@@ -1,9 +1,8 @@
 // The waits of a law in PDDL: records of an action's number and a fact's, any number of them, read
 // one after the other.
 ghost use mathlib.Core.Path.{_≡_};
-ghost use Prim.Native.Nat.{_^_, _≤_, _<_, max};
+ghost use Prim.Native.Nat.{_≤_, max};
 ghost use lib.ListN.{length};
-ghost use lib.Bits.{bitOr};
 ghost use Rattle.semantics.specs.Base.{zeroed};
 ghost use Rattle.pddl_waits.specs.Inner.Wait.{waitMeans};
 ghost use Rattle.pddl_waits.specs.Inner.Waits.{AddedIn, WaitsIn, withinOf};
@@ -68,22 +67,16 @@ fn next_wait(waits: &[u8], from: usize) -> Wait
     }
 }
 
-// The mask with one fact more.
-fn with_fact(mask: u64, fact: u64) -> u64
-    requires { ⌜ fact < 64 ⌝ }
-    ensures { λ r. ⌜ r ≡ bitOr mask (2 ^ fact) ⌝ }
-{
-    mask | (1 << fact)
-}
-
-// One fact more for which an action waits, if the table has the action and the fact is below 64.
+// One fact more for which an action waits, if the table has the action and the fact is below 128.
 fn add(table: &mut [u64], action: u64, fact: u64)
     ensures { λ _. ⌜ AddedIn (now (table .entry)) action fact (now (table .exit)) ⌝ }
 {
-    if action < table.len() as u64 {
-        if fact < 64 {
+    if action < mask::room(table.len()) as u64 {
+        if fact < pddl_words::MOST_FACTS as u64 {
             let k = action as usize;
-            table[k] = with_fact(table[k], fact);
+            let one = pddl_words::fact(fact as usize);
+            let facts = pddl_words::union(mask::load(table, k), one);
+            mask::store(table, k, facts);
         }
     }
 }
@@ -96,7 +89,7 @@ fn greater(a: u64, b: u64) -> u64
 }
 
 // All waits in one pass. The facts for which each of the first actions waits go into the table, a
-// mask for each, all zeros before; what a wait beyond the table, or for a fact from 64 on, leaves
+// mask for each, all zeros before; what a wait beyond the table, or for a fact from 128 on, leaves
 // in it is not told.
 pub fn read(waits: &[u8], table: &mut [u64]) -> Reading
     requires { ⌜ now table ≡ zeroed (now table) ⌝ }

@@ -17,6 +17,7 @@ use Rattle.semantics.specs.PddlWrite.{effectsText, actionText, domainText, goal
 use Rattle.semantics.specs.PddlWrite.{membersText, lawText, waitText, actionWaits, waitsText}
 use Rattle.theory.proofs.Lists.{lt-or-ge, filter-mem, upTo-mem, upTo-length}
 use Rattle.theory.proofs.Accepted.{accepted}
+use Rattle.pddl_theory.specs.Inner.Limits.{mostFacts}
 use Rattle.pddl_theory.proofs.RegroupedWords.{order-length}
 use Rattle.text.proofs.Longest.{field-length}
 use Rattle.text.proofs.RoundTrip.{word-field}
@@ -54,16 +55,24 @@ numbered-most g B h k (x ∷ xs) l =
 
 -- ---- digits
 
+-- one digit more
+digits-next : (v n : ℕ) → 10 ≤ v → length (digits (v / 10)) ≤ n → length (digits v) ≤ n + 1
+digits-next v n l h =
+    omega (arith, ap length (digits-more v l), length-append (digits (v / 10)) ((48 + v % 10) ∷ []))
+
 digits-two : (v : ℕ) → v < 100 → length (digits v) ≤ 2
 digits-two v h =
     ⊎-elim (λ (l : v < 10). omega (arith, ap length (digits-one v l)))
-    (λ (l : 10 ≤ v). omega (
-      arith,
-      ap length (digits-more v l),
-      length-append (digits (v / 10)) ((48 + v % 10) ∷ []),
-      ap length (digits-one (v / 10) (omega arith)),
-    ))
+    (λ (l : 10 ≤ v).
+    let one : length (digits (v / 10)) ≤ 1 = omega (arith, ap length (digits-one (v / 10) (omega arith))) in
+    digits-next v 1 l one)
     (lt-or-ge v 10)
+
+digits-three : (v : ℕ) → v < 1000 → length (digits v) ≤ 3
+digits-three v h =
+    ⊎-elim (λ (l : v < 100). omega (arith, digits-two v l))
+    (λ (l : 100 ≤ v). digits-next v 2 (omega arith) (digits-two (v / 10) (omega arith)))
+    (lt-or-ge v 100)
 
 digits-word : (v : ℕ) → v < 2 ^ 64 → length (digits v) ≤ 20
 digits-word v h = field-length (digits v) (word-field v (lt-ltb v (2 ^ 64) h))
@@ -74,42 +83,42 @@ between-length p v q = omega (arith, length-append p (digits v ++ q), length-app
 
 -- ---- facts
 
-module _ (g : ℕ → List ℕ) (B : ℕ) (h : (f : ℕ) → f < 64 → length (g f) ≤ B) (F : ℕ) (few : F ≤ 64) where
-  pub below-most : length (each g (upTo F)) ≤ B * 64
+module _ (g : ℕ → List ℕ) (B : ℕ) (h : (f : ℕ) → f < mostFacts → length (g f) ≤ B) (F : ℕ) (few : F ≤ mostFacts) where
+  pub below-most : length (each g (upTo F)) ≤ B * mostFacts
   below-most =
-      let l : length (upTo F) ≤ 64 = omega (arith, upTo-length F) in
+      let l : length (upTo F) ≤ mostFacts = omega (arith, upTo-length F) in
       omega (
         arith,
         each-most g B (upTo F) (λ f m. h f (omega (arith, upTo-mem F m))),
         mul-le-mul-left B l,
       )
 
-  pub standing-most : (x : ℕ) → length (each g (standing F x)) ≤ B * 64
+  pub standing-most : (x : ℕ) → length (each g (standing F x)) ≤ B * mostFacts
   unfolding standing
   standing-most x =
       let p : ℕ → Bool = λ f. has f x in
-      let l : length (keep p (upTo F)) ≤ 64 = omega (arith, keep-few p (upTo F), upTo-length F) in
+      let l : length (keep p (upTo F)) ≤ mostFacts = omega (arith, keep-few p (upTo F), upTo-length F) in
       omega (
         arith,
         each-most g B (keep p (upTo F)) (λ f m. h f (omega (arith, upTo-mem F (filter-mem p (upTo F) m .0)))),
         mul-le-mul-left B l,
       )
 
-atom-most : (f : ℕ) → f < 64 → length (atomText f) ≤ 6
+atom-most : (f : ℕ) → f < mostFacts → length (atomText f) ≤ 7
 unfolding atomText spelt numbersFrom
-atom-most f h = omega (arith, between-length (spelt " (f") f (spelt ")"), digits-two f (omega arith))
+atom-most f h = omega (arith, between-length (spelt " (f") f (spelt ")"), digits-three f (omega arith))
 
-negation-most : (f : ℕ) → f < 64 → length (negationText f) ≤ 12
+negation-most : (f : ℕ) → f < mostFacts → length (negationText f) ≤ 13
 unfolding negationText spelt numbersFrom
-negation-most f h = omega (arith, between-length (spelt " (not (f") f (spelt "))"), digits-two f (omega arith))
+negation-most f h = omega (arith, between-length (spelt " (not (f") f (spelt "))"), digits-three f (omega arith))
 
 -- ---- the law
 
 module _ (t : List ℕ) (c : check t ≡ 0) where
-  few : facts t ≤ 64
+  few : facts t ≤ mostFacts
   few = accepted t c .few-facts
 
-  effects-most : (a : ℕ) → length (effectsText t a) ≤ 1172
+  effects-most : (a : ℕ) → length (effectsText t a) ≤ 2580
   unfolding effectsText spelt numbersFrom
   effects-most a =
       let p = spelt ")\n  :effect (and" in
@@ -120,11 +129,11 @@ module _ (t : List ℕ) (c : check t ≡ 0) where
         length-append p (adds ++ (dels ++ spelt "))")),
         length-append adds (dels ++ spelt "))"),
         length-append dels (spelt "))"),
-        standing-most atomText 6 atom-most (facts t) few (add t a),
-        standing-most negationText 12 negation-most (facts t) few (del t a),
+        standing-most atomText 7 atom-most (facts t) few (add t a),
+        standing-most negationText 13 negation-most (facts t) few (del t a),
       )
 
-  action-most : (k a : ℕ) → k < 2 ^ 64 → length (actionText t k a) ≤ 1640
+  action-most : (k a : ℕ) → k < 2 ^ 64 → length (actionText t k a) ≤ 3560
   unfolding actionText spelt numbersFrom
   action-most k a h =
       let p = spelt "\n (:action a" in
@@ -136,12 +145,12 @@ module _ (t : List ℕ) (c : check t ≡ 0) where
         between-length p k q,
         length-append atoms (effectsText t a),
         digits-word k h,
-        standing-most atomText 6 atom-most (facts t) few (pre t a),
+        standing-most atomText 7 atom-most (facts t) few (pre t a),
         effects-most a,
       )
 
   domain-most : (k i : ℕ) → k + length (own t i) ≤ 2 ^ 64 → i < 2 ^ 64
-      → length (domainText t k i) ≤ 1640 * length (own t i) + 464
+      → length (domainText t k i) ≤ 3560 * length (own t i) + 976
   unfolding domainText spelt numbersFrom
   domain-most k i h l =
       let p = spelt "(define (domain member" in
@@ -156,11 +165,11 @@ module _ (t : List ℕ) (c : check t ≡ 0) where
         length-append (spelt ")") (rows ++ spelt ")\n"),
         length-append rows (spelt ")\n"),
         digits-word i l,
-        below-most atomText 6 atom-most (facts t) few,
-        numbered-most (actionText t) 1640 action-most k (own t i) h,
+        below-most atomText 7 atom-most (facts t) few,
+        numbered-most (actionText t) 3560 action-most k (own t i) h,
       )
 
-  goal-most : (i : ℕ) → length (goalText t i) ≤ 403
+  goal-most : (i : ℕ) → length (goalText t i) ≤ 915
   unfolding goalText spelt numbersFrom
   goal-most i =
       let p = spelt ")\n (:goal (and" in
@@ -169,10 +178,10 @@ module _ (t : List ℕ) (c : check t ≡ 0) where
         arith,
         length-append p (atoms ++ spelt ")))\n"),
         length-append atoms (spelt ")))\n"),
-        standing-most atomText 6 atom-most (facts t) few (goal t i),
+        standing-most atomText 7 atom-most (facts t) few (goal t i),
       )
 
-  problem-most : (i : ℕ) → i < 2 ^ 64 → length (problemText t i) ≤ 900
+  problem-most : (i : ℕ) → i < 2 ^ 64 → length (problemText t i) ≤ 1924
   unfolding problemText spelt numbersFrom
   problem-most i l =
       let p = spelt "(define (problem member" in
@@ -187,13 +196,13 @@ module _ (t : List ℕ) (c : check t ≡ 0) where
         between-length q i r,
         length-append atoms (goalText t i),
         digits-word i l,
-        standing-most atomText 6 atom-most (facts t) few (initial t),
+        standing-most atomText 7 atom-most (facts t) few (initial t),
         goal-most i,
       )
 
   members-most : (k : ℕ) (is : List ℕ) → ((i : ℕ) → List·Memᴰ i is → i < 2 ^ 64)
       → k + length (flatten (map (own t) is)) ≤ 2 ^ 64
-      → length (membersText t k is) ≤ 1640 * length (flatten (map (own t) is)) + 1400 * length is
+      → length (membersText t k is) ≤ 3560 * length (flatten (map (own t) is)) + 2900 * length is
   unfolding membersText memberText flatten
   members-most k [] h l = omega arith
   members-most k (i ∷ is) h l =
@@ -231,7 +240,7 @@ module _ (t : List ℕ) (c : check t ≡ 0) where
 
   -- ---- the waits
 
-  wait-most : (k : ℕ) → k < 2 ^ 64 → (f : ℕ) → f < 64 → length (waitText k f) ≤ 25
+  wait-most : (k : ℕ) → k < 2 ^ 64 → (f : ℕ) → f < mostFacts → length (waitText k f) ≤ 26
   unfolding waitText
   wait-most k h f l =
       omega (
@@ -239,7 +248,7 @@ module _ (t : List ℕ) (c : check t ≡ 0) where
         length-append (digits k) (comma ∷ (digits f ++ (cr ∷ lf ∷ []))),
         length-append (digits f) (cr ∷ lf ∷ []),
         digits-word k h,
-        digits-two f (omega arith),
+        digits-three f (omega arith),
       )
 
   pub waits-most : length (waitsText t) ≤ most
@@ -251,7 +260,7 @@ module _ (t : List ℕ) (c : check t ≡ 0) where
         arith,
         e,
         m,
-        numbered-most (actionWaits t) 1600
-            (λ k a h. standing-most (waitText k) 25 (wait-most k h) (facts t) few (wait t a)) 0 (order t)
+        numbered-most (actionWaits t) 3328
+            (λ k a h. standing-most (waitText k) 26 (wait-most k h) (facts t) few (wait t a)) 0 (order t)
             (omega (arith, e, m)),
       )

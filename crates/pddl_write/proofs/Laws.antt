@@ -2,9 +2,9 @@
 use mathlib.Core.Path.{_≡_, refl, sym, ap, subst, _∙_}
 use mathlib.Core.Bool.{Bool, true, false, cond}
 use mathlib.Core.List.{List, [], _∷_, _++_, map, flatten, append-assoc}
-use Prim.Native.Nat.{ℕ, zero, suc, _+_, _-_, _*_, _/_, _%_, _^_, _≤_, _<_}
+use Prim.Native.Nat.{ℕ, zero, suc, _+_, _-_, _*_, _/_, _^_, _≤_, _<_}
 use native.Mathlib.Omega.{arith}
-use native.Mathlib.Nat.{add-zero, pow-suc, div-one}
+use native.Mathlib.Nat.{add-zero, pow-suc}
 use native.Mathlib.Numerals.{add-one}
 use lib.ListN.{length, getD, take, drop, set, replicate, drop-of-length-le}
 use lib.Seq.{drop-cons, set-out, sets, sets-eq, take-append-seam}
@@ -19,6 +19,8 @@ use Rattle.theory.proofs.Lists.{and-elim, true-all, upTo-mem, upTo-length}
 use Rattle.theory.proofs.Masks.{has-suc}
 use Rattle.theory.proofs.Loops.{upTo-at}
 use Rattle.theory.proofs.Accepted.{accepted}
+use Rattle.pddl_theory.specs.Inner.Limits.{mostFacts}
+use Rattle.pddl_write.proofs.Alone.{last-has}
 use Rattle.pddl_write.specs.Inner.Put.{Slot, slot, most, next, putAll, Put, chosen, one, isOwn}
 
 -- ---- places
@@ -293,7 +295,7 @@ waits-spread t = record {
 
 -- ---- facts
 
-pub facts-few : (t : List ℕ) → check t ≡ 0 → (r : ℕ) → r ≡ facts t → r ≤ 64
+pub facts-few : (t : List ℕ) → check t ≡ 0 → (r : ℕ) → r ≡ facts t → r ≤ mostFacts
 facts-few t c r e = omega (arith, accepted t c .few-facts)
 
 -- the facts of a mask of the task
@@ -304,14 +306,10 @@ put-mask g F x F′ x′ {before} {after} {at} {end} h e q =
     subst (λ (y : ℕ). Put (each g (standing F′ y)) before at after end) q
     (subst (λ (y : ℕ). Put (each g (standing y x)) before at after end) e h)
 
-odd-has : (x : ℕ) → x % 2 ≡ 1 → has 0 x ≡ true
-unfolding has
-odd-has x e = rw (div-one, e)
-
 -- every fact stands in the mask with every bit
 pub full-has : (k f : ℕ) → f < k → has f (2 ^ k - 1) ≡ true
 full-has zero f h = absurd (omega arith)
-full-has (suc k) zero h = odd-has (2 ^ suc k - 1) (omega (arith, pow-suc 2 k, pow-pos k))
+full-has (suc k) zero h = last-has (2 ^ suc k - 1) (omega (arith, pow-suc 2 k, pow-pos k))
 full-has (suc k) (suc f) h =
     let e : (2 ^ suc k - 1) / 2 ≡ 2 ^ k - 1 = omega (arith, pow-suc 2 k, pow-pos k) in
     has-suc f (2 ^ suc k - 1) ∙ ap (has f) e ∙ full-has k f (omega arith)
@@ -323,15 +321,15 @@ keep-all p [] h = refl
 keep-all p (x ∷ xs) h =
     let r = and-elim (p x) (allOf p xs) h in rw (r .0) (ap (λ (l : List ℕ). x ∷ l) (keep-all p xs (r .1)))
 
-pub standing-all : (F : ℕ) → F ≤ 64 → standing F (2 ^ 64 - 1) ≡ upTo F
+pub standing-all : (F : ℕ) → F ≤ mostFacts → standing F (2 ^ mostFacts - 1) ≡ upTo F
 unfolding standing
 standing-all F h =
-    keep-all (λ f. has f (2 ^ 64 - 1)) (upTo F)
-    (true-all (λ f. has f (2 ^ 64 - 1)) (upTo F)
-    (λ f m. let l : f < 64 = omega (arith, upTo-mem F m) in full-has 64 f l))
+    keep-all (λ f. has f (2 ^ mostFacts - 1)) (upTo F)
+    (true-all (λ f. has f (2 ^ mostFacts - 1)) (upTo F)
+    (λ f m. let l : f < mostFacts = omega (arith, upTo-mem F m) in full-has mostFacts f l))
 
 pub put-all : (g : ℕ → List ℕ) (F x : ℕ) {before after : List ℕ} {at end : ℕ}
-    → Put (each g (standing F x)) before at after end → x ≡ 2 ^ 64 - 1 → F ≤ 64
+    → Put (each g (standing F x)) before at after end → x ≡ 2 ^ mostFacts - 1 → F ≤ mostFacts
     → Put (each g (upTo F)) before at after end
 put-all g F x {before} {after} {at} {end} h e l =
     subst (λ (xs : List ℕ). Put (each g xs) before at after end) (ap (standing F) e ∙ standing-all F l) h

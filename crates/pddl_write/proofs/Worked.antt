@@ -19,16 +19,16 @@ use Rattle.semantics.specs.PddlWrite.{memberText, membersText, lawText, waitTex
 -- the owners of its four actions are 1, 0, 1, 0
 unfoldable pub mixed : List ℕ
 mixed =
-    3 ∷ 2 ∷ 4 ∷ 1 ∷ 0
-    ∷ 0 ∷ 6 ∷ 0 ∷ 0 ∷ 0
-    ∷ 1 ∷ 4 ∷ 0 ∷ 0 ∷ 0
-    ∷ 1 ∷ 3 ∷ 2 ∷ 4 ∷ 4
-    ∷ 0 ∷ 1 ∷ 1 ∷ 2 ∷ 1
-    ∷ 1 ∷ 7 ∷ 5 ∷ 0 ∷ 7
-    ∷ 0 ∷ 0 ∷ 0 ∷ 0 ∷ 0
+    3 ∷ 2 ∷ 4 ∷ 1 ∷ 0 ∷ 0 ∷ 0 ∷ 0 ∷ 0
+    ∷ 0 ∷ 6 ∷ 0 ∷ 0 ∷ 0 ∷ 0 ∷ 0 ∷ 0 ∷ 0
+    ∷ 1 ∷ 4 ∷ 0 ∷ 0 ∷ 0 ∷ 0 ∷ 0 ∷ 0 ∷ 0
+    ∷ 1 ∷ 3 ∷ 0 ∷ 2 ∷ 0 ∷ 4 ∷ 0 ∷ 4 ∷ 0
+    ∷ 0 ∷ 1 ∷ 0 ∷ 1 ∷ 0 ∷ 2 ∷ 0 ∷ 1 ∷ 0
+    ∷ 1 ∷ 7 ∷ 0 ∷ 5 ∷ 0 ∷ 0 ∷ 0 ∷ 7 ∷ 0
+    ∷ 0 ∷ 0 ∷ 0 ∷ 0 ∷ 0 ∷ 0 ∷ 0 ∷ 0 ∷ 0
     ∷ []
 
-pub mixed-reads-back : readPddl (lawText mixed) (waitsText mixed) (replicate 40 9)
+pub mixed-reads-back : readPddl (lawText mixed) (waitsText mixed) (replicate 68 9)
     ≡ record { answer = gives 7; words = grouped mixed ++ replicate 5 0 }
 unfolding own order rowOf grouped spelt each numbered standing atomText negationText effectsText goalText actionText
     domainText problemText memberText membersText lawText waitText actionWaits waitsText mixed flatten numbersFrom

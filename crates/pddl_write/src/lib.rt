@@ -13,6 +13,7 @@ ghost use Rattle.semantics.specs.PddlWrite.{effectsText, actionText, domainText
 ghost use Rattle.semantics.specs.PddlWrite.{problemText, memberText, lawText, waitText};
 ghost use Rattle.semantics.specs.PddlWrite.{actionWaits, waitsText, writePddl};
 ghost use Rattle.mask.specs.Number.{number};
+ghost use Rattle.pddl_theory.specs.Inner.Limits.{mostFacts};
 ghost use Rattle.pddl_write.specs.Inner.Put.{most, next, Put, between, chosen, one};
 ghost use Rattle.pddl_write.specs.Inner.Put.{isOwn};
 ghost use Rattle.pddl_write.specs.Post.{writing};
@@ -80,17 +81,17 @@ fn put_told(out: &mut [u8], at: usize, before: &[u8], v: u64, after: &[u8]) -> u
     put(out, end, after)
 }
 
-// Whether fact f, below 64, stands in the mask.
+// Whether fact f, below 128, stands in the mask.
 fn has(m: Mask, f: u64) -> bool
-    requires { ⌜ f < 64 ⌝ }
+    requires { ⌜ f < mostFacts ⌝ }
     ensures { λ r. ⌜ r ≡ has f (number m) ⌝ }
 {
-    (mask::to_word(m) >> f) % 2 == 1
+    mask::within(pddl_words::fact(f as usize), m)
 }
 
 // Fact f, if it stands in the mask.
 fn put_fact(out: &mut [u8], at: usize, before: &[u8], after: &[u8], m: Mask, f: u64) -> usize
-    requires { ⌜ f < 64 ⌝ }
+    requires { ⌜ f < mostFacts ⌝ }
     ensures { λ r. ⌜ Put
         (chosen (has f (number m)) (between (now (before .entry)) (now (after .entry)) f))
         (now (out .entry)) at (now (out .exit)) r ⌝ }
@@ -103,7 +104,7 @@ fn put_fact(out: &mut [u8], at: usize, before: &[u8], after: &[u8], m: Mask, f: 
 
 // The facts that stand in the mask.
 fn put_facts(out: &mut [u8], at: usize, before: &[u8], after: &[u8], m: Mask, facts: u64) -> usize
-    requires { ⌜ facts ≤ 64 ⌝ }
+    requires { ⌜ facts ≤ mostFacts ⌝ }
     ensures { λ r. ⌜ Put
         (each (between (now (before .entry)) (now (after .entry))) (standing facts (number m)))
         (now (out .entry)) at (now (out .exit)) r ⌝ }
@@ -119,14 +120,14 @@ fn put_facts(out: &mut [u8], at: usize, before: &[u8], after: &[u8], m: Mask, fa
 
 // A mask with every fact.
 fn all() -> Mask
-    ensures { λ r. ⌜ number r ≡ 2 ^ 64 - 1 ⌝ }
+    ensures { λ r. ⌜ number r ≡ 2 ^ mostFacts - 1 ⌝ }
 {
-    mask::of_word(ALL)
+    mask::of_words(ALL, ALL)
 }
 
 // The facts of the mask as atoms.
 fn put_atoms(out: &mut [u8], at: usize, m: Mask, facts: u64) -> usize
-    requires { ⌜ facts ≤ 64 ⌝ }
+    requires { ⌜ facts ≤ mostFacts ⌝ }
     ensures { λ r. ⌜ Put (each atomText (standing facts (number m))) (now (out .entry)) at
         (now (out .exit)) r ⌝ }
 {
@@ -135,7 +136,7 @@ fn put_atoms(out: &mut [u8], at: usize, m: Mask, facts: u64) -> usize
 
 // The facts of the mask, negated.
 fn put_negations(out: &mut [u8], at: usize, m: Mask, facts: u64) -> usize
-    requires { ⌜ facts ≤ 64 ⌝ }
+    requires { ⌜ facts ≤ mostFacts ⌝ }
     ensures { λ r. ⌜ Put (each negationText (standing facts (number m))) (now (out .entry)) at
         (now (out .exit)) r ⌝ }
 {
@@ -144,7 +145,7 @@ fn put_negations(out: &mut [u8], at: usize, m: Mask, facts: u64) -> usize
 
 // All facts as atoms.
 fn put_predicates(out: &mut [u8], at: usize, facts: u64) -> usize
-    requires { ⌜ facts ≤ 64 ⌝ }
+    requires { ⌜ facts ≤ mostFacts ⌝ }
     ensures { λ r. ⌜ Put (each atomText (upTo facts)) (now (out .entry)) at (now (out .exit)) r ⌝ }
 {
     put_atoms(out, at, all(), facts)
@@ -154,7 +155,7 @@ fn put_predicates(out: &mut [u8], at: usize, facts: u64) -> usize
 fn facts(t: &[u64]) -> u64
     requires { ⌜ check (now t) ≡ 0 ⌝ }
     ensures { λ r. ⌜ r ≡ facts (now (t .entry)) ⌝ }
-    ensures { λ r. ⌜ r ≤ 64 ⌝ }
+    ensures { λ r. ⌜ r ≤ mostFacts ⌝ }
 {
     task::facts(t)
 }
@@ -332,7 +333,7 @@ fn put_law(out: &mut [u8], t: &[u64]) -> usize
 
 // The record of fact f, if it stands in the mask, for action number k.
 fn put_record(out: &mut [u8], at: usize, k: usize, m: Mask, f: u64) -> usize
-    requires { ⌜ f < 64 ⌝ }
+    requires { ⌜ f < mostFacts ⌝ }
     ensures { λ r. ⌜ Put (chosen (has f (number m)) (waitText k f)) (now (out .entry)) at
         (now (out .exit)) r ⌝ }
 {
@@ -345,7 +346,7 @@ fn put_record(out: &mut [u8], at: usize, k: usize, m: Mask, f: u64) -> usize
 
 // The records of the facts in the mask.
 fn put_records(out: &mut [u8], at: usize, k: usize, m: Mask, facts: u64) -> usize
-    requires { ⌜ facts ≤ 64 ⌝ }
+    requires { ⌜ facts ≤ mostFacts ⌝ }
     ensures { λ r. ⌜ Put (each (waitText k) (standing facts (number m))) (now (out .entry)) at
         (now (out .exit)) r ⌝ }
 {

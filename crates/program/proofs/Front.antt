@@ -1,4 +1,4 @@
--- The file of a text's first 28,091 bytes is the file of the text. Assumes nothing.
+-- The file of a text's first 50,351 bytes is the file of the text. Assumes nothing.
 use mathlib.Core.Path.{_≡_, ap}
 use mathlib.Core.Logic.{⊎-elim}
 use mathlib.Core.List.{List}

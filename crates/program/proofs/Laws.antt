@@ -40,14 +40,26 @@ use Rattle.program.specs.Inner.Most.{mostBytes}
 
 -- ---- lengths
 
--- the rows of all members fit the local table
-pub rows-most : (n : ℕ) → n * (localWords / n) ≤ localWords
-rows-most n = mul-div-le localWords n
+-- the copies that each table holds
+abbrev pub localCopies : ℕ
+localCopies = 2048
 
-pub configurations-most : (n : ℕ) → 1 ≤ n → configurationWords / (n + 1) ≤ 4096
+abbrev pub configurationCopies : ℕ
+configurationCopies = 4096
+
+-- the most configurations, those of a task of one member
+abbrev pub mostConfigurations : ℕ
+mostConfigurations = 2048
+
+-- the rows of all members fit the local table
+pub rows-most : (n : ℕ) → n * (localCopies / n) ≤ localCopies
+rows-most n = mul-div-le localCopies n
+
+pub configurations-most : (n : ℕ) → 1 ≤ n → configurationCopies / (n + 1) ≤ mostConfigurations
 configurations-most n h =
-    let l : configurationWords / (n + 1) < 4097 =
-    div-lt-iff-lt-mul {k = n + 1} {x = configurationWords} {y = 4097} (omega arith) .1 (omega arith) in
+    let l : configurationCopies / (n + 1) < mostConfigurations + 1 =
+    div-lt-iff-lt-mul {k = n + 1} {x = configurationCopies} {y = mostConfigurations + 1} (omega arith) .1
+    (omega arith) in
     omega arith
 
 -- the front of a slice of zeros
@@ -61,10 +73,12 @@ front-length n m h = sym (ap length (take-zeros n m h) ∙ length-replicate {A =
 
 -- the fronts of the program's slices are those that the verdict is lent
 pub lends : (t : List ℕ) → check t ≡ 0 → (n : ℕ) → n ≡ members t
-    → lentOf (replicate localWords 0) (take (n * (localWords / n)) (replicate 4096 0)) (replicate configurationWords 0)
-    (take (2 * (configurationWords / (n + 1))) (replicate 8192 0))
-    (take (configurationWords / (n + 1) + n * (localWords / n)) (replicate 8192 0)) (take n (replicate 8 0))
-    (take (configurationWords / (n + 1)) (replicate 4096 0))
+    → lentOf (replicate localWords 0) (take (n * (localCopies / n)) (replicate localCopies 0))
+    (replicate configurationWords 0)
+    (take (2 * (configurationCopies / (n + 1))) (replicate (2 * mostConfigurations) 0))
+    (take (configurationCopies / (n + 1) + n * (localCopies / n)) (replicate (mostConfigurations + localCopies) 0))
+    (take n (replicate 8 0))
+    (take (configurationCopies / (n + 1)) (replicate mostConfigurations 0))
     ≡ lentFor t
 unfolding lentFor
 lends t ok n e =
@@ -72,11 +86,12 @@ lends t ok n e =
     let r = rows-most n in
     let c = configurations-most n (omega (arith, a .some-members)) in
     rw (
-      take-zeros (n * (localWords / n)) 4096 r,
-      take-zeros (2 * (configurationWords / (n + 1))) 8192 (omega arith),
-      take-zeros (configurationWords / (n + 1) + n * (localWords / n)) 8192 (omega arith),
+      take-zeros (n * (localCopies / n)) localCopies r,
+      take-zeros (2 * (configurationCopies / (n + 1))) (2 * mostConfigurations) (omega arith),
+      take-zeros (configurationCopies / (n + 1) + n * (localCopies / n)) (mostConfigurations + localCopies)
+          (omega arith),
       take-zeros n 8 (omega (arith, a .few-members)),
-      take-zeros (configurationWords / (n + 1)) 4096 c,
+      take-zeros (configurationCopies / (n + 1)) mostConfigurations c,
       add-one n,
       e,
     )
@@ -86,8 +101,6 @@ pub long-enough : (t : List ℕ) → tooShort t (room (lentFor t)) ≡ false
 unfolding lentFor
 long-enough t =
     rw (
-      length-replicate {A = ℕ} localWords 0,
-      length-replicate {A = ℕ} configurationWords 0,
       length-replicate {A = ℕ} (members t * K t) 0,
       length-replicate {A = ℕ} (2 * C t) 0,
       length-replicate {A = ℕ} (C t + members t * K t) 0,
@@ -263,7 +276,7 @@ module _ (t : List ℕ) (before after : Slices) (answer : Answer (Verdict Failin
       ap (λ (l : Slices). length (l .plans)) lent ∙ length-replicate {A = ℕ} (C t + members t * K t) 0 in
       let f : length (before .picks) ≡ C t =
       ap (λ (l : Slices). length (l .picks)) lent ∙ length-replicate {A = ℕ} (C t) 0 in
-      let g : configurationWords / (members t + 1) ≡ C t = rw add-one in
+      let g : configurationCopies / (members t + 1) ≡ C t = rw add-one in
       omega (
         arith,
         rows-most (members t),
@@ -273,7 +286,7 @@ module _ (t : List ℕ) (before after : Slices) (answer : Answer (Verdict Failin
 
 -- ---- the reader
 
--- every record of a text gives five words
+-- every record of a text gives a row of words
 words-length : (rs : List (List ℕ)) → allOf (isRecord rowWidth) rs ≡ true
     → length (flatten (map (λ r. map number (fields r)) rs)) ≡ rowWidth * length rs
 unfolding allOf isRecord flatten

@@ -9,19 +9,29 @@ ghost use Rattle.program.specs.Program.{lentFor, reported, printed, AtFr
 ghost use Rattle.program.specs.Inner.Most.{mostBytes};
 use text::TextRead;
 
-// The words of the longest text.
-const WORDS: usize = 5 * 265;
-
 const LOCAL_WORDS: usize = 4096;
 
 const CONFIGURATION_WORDS: usize = 8192;
 
-// The bytes of the longest text: 265 records of five fields of 20 digits, four commas and CR LF.
-pub const MOST_TEXT: usize = 265 * (5 * 20 + 4 + 2);
+// The words of a copy.
+const COPY_WORDS: usize = 2;
+
+// How many copies each table holds.
+const LOCAL_COPIES: usize = LOCAL_WORDS / COPY_WORDS;
+
+const CONFIGURATION_COPIES: usize = CONFIGURATION_WORDS / COPY_WORDS;
+
+// The most configurations, those of a task of one member.
+const MOST_CONFIGURATIONS: usize = CONFIGURATION_COPIES / 2;
+
+// The bytes of the longest text: of each record, fields of 20 digits, a comma after each but the
+// last, and CR LF.
+pub const MOST_TEXT: usize = text::MOST_RECORDS * (text::ROW * 20 + text::ROW - 1 + 2);
 
 // The bytes of the longest file: the line of column names, then lines of at most 33 bytes, one for
 // the verdict, eight for plans, and as many for actions and picks as the slices hold.
-pub const MOST_BYTES: usize = 16 + 33 * (1 + 8 + 8192 + 4096);
+pub const MOST_BYTES: usize = 16
+    + 33 * (1 + 8 + (MOST_CONFIGURATIONS + LOCAL_COPIES) + MOST_CONFIGURATIONS);
 
 // The file of the verdict on an accepted task, with zero slices of the program's lengths.
 fn judge(
@@ -53,15 +63,15 @@ fn of_task(t: &[u64], out: &mut [u8]) -> usize
     ensures { λ r. ⌜ AtFront (reported (now (t .entry))) (now (out .entry)) (now (out .exit)) r ⌝ }
 {
     let n = task::members(t);
-    let rows = n * (LOCAL_WORDS / n);
-    let most = CONFIGURATION_WORDS / (n + 1);
+    let rows = n * (LOCAL_COPIES / n);
+    let most = CONFIGURATION_COPIES / (n + 1);
     let mut local = [0u64; LOCAL_WORDS];
-    let mut marks = [0u8; 4096];
+    let mut marks = [0u8; LOCAL_COPIES];
     let mut confs = [0u64; CONFIGURATION_WORDS];
-    let mut trail = [0u64; 8192];
-    let mut plans = [0u16; 8192];
+    let mut trail = [0u64; 2 * MOST_CONFIGURATIONS];
+    let mut plans = [0u16; MOST_CONFIGURATIONS + LOCAL_COPIES];
     let mut ends = [0u64; 8];
-    let mut picks = [0u8; 4096];
+    let mut picks = [0u8; MOST_CONFIGURATIONS];
     judge(
         t,
         &mut local,
@@ -83,7 +93,7 @@ fn of_text(text: &[u8], words: &mut [u64], out: &mut [u8]) -> usize
         (now (out .exit)) r ⌝ }
 {
     match text::read(text, words) {
-        TextRead::Gives(n) => of_task(&words[..5 * n], out),
+        TextRead::Gives(n) => of_task(&words[..text::ROW * n], out),
         TextRead::Refused(k) => report::put_refusal(out, k),
     }
 }
@@ -94,6 +104,6 @@ pub fn verdict_file(text: &[u8], out: &mut [u8; MOST_BYTES]) -> usize
     ensures { λ r. ⌜ AtFront (printed (now (text .entry))) (now (out .entry))
         (now (out .exit)) r ⌝ }
 {
-    let mut words = [0u64; WORDS];
+    let mut words = [0u64; text::MOST_WORDS];
     of_text(text, &mut words, out)
 }

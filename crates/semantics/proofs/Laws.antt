@@ -16,7 +16,7 @@ use Rattle.semantics.specs.Verdict.{sameRow, moved, ready, moves, config
 use Rattle.semantics.specs.Verdict.{deadlocked, faults, leadsBy, actionTo, sourceOf, walkIn, colliding, waiting}
 use Rattle.semantics.specs.Verdict.{goesOn, lastPick, restAt, conflictBy, firstConflict, solvableElse, verdictIn}
 use Rattle.semantics.specs.Verdict.{verdict}
-use Rattle.semantics.proofs.Table.{table, further, searches, asks, commits, AllHold}
+use Rattle.semantics.proofs.Table.{table, further, searches, wider, asks, commits, AllHold}
 
 pub laws-hold : AllHold table
 unfolding anyOf allOf collect flatten keep numbersFrom firstRefusal within after below headFits goalRow actionRow check
@@ -42,8 +42,19 @@ further-hold =
 
 pub searches-hold : AllHold searches
 unfolding anyOf allOf collect keep numbersFrom firstRefusal within after below headFits goalRow actionRow check addNew
-    addAll grow soloNext copies leadingTo liveOf marksOf ones soloSearch
-searches-hold = (refl, (refl, (refl, (refl, tt))))
+    addAll grow soloNext copies leadingTo liveOf marksOf ones soloSearch flatten
+searches-hold = (refl, (refl, (refl, (refl, (refl, tt)))))
+
+pub wider-hold : AllHold wider
+unfolding anyOf allOf collect flatten keep numbersFrom firstRefusal within after below headFits goalRow actionRow check
+    routine step addNew addAll grow soloFrom soloNext copies leadingTo liveOf marksOf ones soloSearch start rest
+    missedIn pickStep pick pickable stepsLeft outcome replayOn replay endsFit plansRefusal jointReplay sameRow moved ready moves
+    configurations collides stuck blocked deadlocked faults firstOf near nearing stepsIn distance completion leadsBy
+    actionTo sourceOf walkIn colliding waiting goesOn lastPick restAt conflictBy firstConflict solvableElse verdictIn
+    verdict
+wider-hold =
+    let later : AllHold (drop 12 wider) = (refl, (refl, (refl, (refl, (refl, (refl, (refl, (refl, (refl, tt))))))))) in
+    (refl, (refl, (refl, (refl, (refl, (refl, (refl, (refl, (refl, (refl, (refl, (refl, later))))))))))))
 
 pub asks-hold : AllHold asks
 unfolding anyOf allOf numbersFrom firstRefusal within after below headFits goalRow actionRow check routine soloFrom rest

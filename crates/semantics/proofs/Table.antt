@@ -2,9 +2,10 @@
 use mathlib.Core.Path.{_≡_}
 use mathlib.Core.Bool.{Bool, true, false}
 use mathlib.Core.List.{List, [], _∷_, _++_}
-use Prim.Native.Nat.{ℕ, _+_, _*_}
+use Prim.Native.Nat.{ℕ, _+_, _*_, _^_}
 use lib.ListN.{getD, set, replicate}
 use Rattle.semantics.specs.Base.{Answer, refused, gives}
+use Rattle.semantics.specs.Words.{wordsOf, rowWords}
 use Rattle.semantics.specs.Task.{rowWidth, members, check}
 use Rattle.semantics.specs.Step.{Decision, go, wait, step}
 use Rattle.semantics.specs.Solo.{SoloSearch, refusedWith, soloSearch}
@@ -18,19 +19,23 @@ use Rattle.semantics.specs.Verdict.{configurationRows, verdict, listedIn
 abbrev pub with : ℕ → ℕ → ℕ → List ℕ → List ℕ
 with r k w t = set t (rowWidth * r + k) w
 
+-- row 0
+abbrev pub start : ℕ → ℕ → ℕ → ℕ → List ℕ
+start F n m I = F ∷ n ∷ m ∷ (wordsOf I ++ (0 ∷ 0 ∷ 0 ∷ 0 ∷ []))
+
 abbrev pub l1 : List ℕ
 l1 =
-    (5 ∷ 2 ∷ 4 ∷ 1 ∷ 0 ∷ [])
-    ++ (0 ∷ 5 ∷ 0 ∷ 0 ∷ 0 ∷ [])
-    ++ (1 ∷ 17 ∷ 0 ∷ 0 ∷ 0 ∷ [])
-    ++ (0 ∷ 1 ∷ 1 ∷ 2 ∷ 1 ∷ [])
-    ++ (0 ∷ 2 ∷ 0 ∷ 5 ∷ 2 ∷ [])
-    ++ (1 ∷ 1 ∷ 1 ∷ 8 ∷ 1 ∷ [])
-    ++ (1 ∷ 8 ∷ 0 ∷ 17 ∷ 8 ∷ [])
+    (5 ∷ 2 ∷ 4 ∷ 1 ∷ 0 ∷ 0 ∷ 0 ∷ 0 ∷ 0 ∷ [])
+    ++ (0 ∷ 5 ∷ 0 ∷ 0 ∷ 0 ∷ 0 ∷ 0 ∷ 0 ∷ 0 ∷ [])
+    ++ (1 ∷ 17 ∷ 0 ∷ 0 ∷ 0 ∷ 0 ∷ 0 ∷ 0 ∷ 0 ∷ [])
+    ++ (0 ∷ 1 ∷ 0 ∷ 1 ∷ 0 ∷ 2 ∷ 0 ∷ 1 ∷ 0 ∷ [])
+    ++ (0 ∷ 2 ∷ 0 ∷ 0 ∷ 0 ∷ 5 ∷ 0 ∷ 2 ∷ 0 ∷ [])
+    ++ (1 ∷ 1 ∷ 0 ∷ 1 ∷ 0 ∷ 8 ∷ 0 ∷ 1 ∷ 0 ∷ [])
+    ++ (1 ∷ 8 ∷ 0 ∷ 0 ∷ 0 ∷ 17 ∷ 0 ∷ 8 ∷ 0 ∷ [])
 
 -- all wait words 0
 abbrev pub l2 : List ℕ
-l2 = with 3 2 0 (with 5 2 0 l1)
+l2 = with 3 3 0 (with 5 3 0 l1)
 
 -- goals 4 and 16
 abbrev pub l3 : List ℕ
@@ -41,7 +46,7 @@ abbrev pub l4 : List ℕ
 l4 = with 2 1 2 l1
 
 abbrev pub l5 : List ℕ
-l5 = (1 ∷ 1 ∷ 0 ∷ 1 ∷ 0 ∷ []) ++ (0 ∷ 1 ∷ 0 ∷ 0 ∷ 0 ∷ [])
+l5 = start 1 1 0 1 ++ rowWords 0 1 0 0 0
 
 -- I = 0
 abbrev pub l6 : List ℕ
@@ -49,19 +54,19 @@ l6 = with 0 3 0 l5
 
 abbrev pub l7 : List ℕ
 l7 =
-    (2 ∷ 2 ∷ 2 ∷ 0 ∷ 0 ∷ [])
-    ++ (0 ∷ 1 ∷ 0 ∷ 0 ∷ 0 ∷ [])
-    ++ (1 ∷ 2 ∷ 0 ∷ 0 ∷ 0 ∷ [])
-    ++ (0 ∷ 0 ∷ 0 ∷ 1 ∷ 0 ∷ [])
-    ++ (1 ∷ 0 ∷ 0 ∷ 2 ∷ 1 ∷ [])
+    start 2 2 2 0
+    ++ rowWords 0 1 0 0 0
+    ++ rowWords 1 2 0 0 0
+    ++ rowWords 0 0 0 1 0
+    ++ rowWords 1 0 0 2 1
 
 abbrev pub l8 : List ℕ
 l8 =
-    (2 ∷ 2 ∷ 2 ∷ 1 ∷ 0 ∷ [])
-    ++ (0 ∷ 1 ∷ 0 ∷ 0 ∷ 0 ∷ [])
-    ++ (1 ∷ 1 ∷ 0 ∷ 0 ∷ 0 ∷ [])
-    ++ (0 ∷ 0 ∷ 0 ∷ 2 ∷ 1 ∷ [])
-    ++ (1 ∷ 1 ∷ 0 ∷ 1 ∷ 0 ∷ [])
+    start 2 2 2 1
+    ++ rowWords 0 1 0 0 0
+    ++ rowWords 1 1 0 0 0
+    ++ rowWords 0 0 0 2 1
+    ++ rowWords 1 1 0 1 0
 
 -- goal 32
 abbrev pub l11 : List ℕ
@@ -69,7 +74,7 @@ l11 = with 1 1 32 l1
 
 -- the last action replaced
 abbrev pub l12 : List ℕ
-l12 = with 6 0 0 (with 6 1 1 (with 6 2 2 (with 6 3 0 (with 6 4 0 l1))))
+l12 = with 6 0 0 (with 6 1 1 (with 6 3 2 (with 6 5 0 (with 6 7 0 l1))))
 
 -- ---- laws for the first conflict (document 02, F-2)
 
@@ -77,30 +82,30 @@ l12 = with 6 0 0 (with 6 1 1 (with 6 2 2 (with 6 3 0 (with 6 4 0 l1))))
 -- three ways on from action 1 to its goal: 4 and 5, 6, or 7.
 abbrev pub collisionFirst : List ℕ
 collisionFirst =
-    (6 ∷ 2 ∷ 8 ∷ 3 ∷ 0 ∷ [])
-    ++ (0 ∷ 20 ∷ 0 ∷ 0 ∷ 0 ∷ [])
-    ++ (1 ∷ 8 ∷ 0 ∷ 0 ∷ 0 ∷ [])
-    ++ (0 ∷ 1 ∷ 1 ∷ 4 ∷ 0 ∷ [])
-    ++ (0 ∷ 2 ∷ 0 ∷ 4 ∷ 0 ∷ [])
-    ++ (1 ∷ 0 ∷ 0 ∷ 8 ∷ 3 ∷ [])
-    ++ (0 ∷ 2 ∷ 0 ∷ 4 ∷ 0 ∷ [])
-    ++ (0 ∷ 4 ∷ 0 ∷ 32 ∷ 0 ∷ [])
-    ++ (0 ∷ 32 ∷ 0 ∷ 16 ∷ 0 ∷ [])
-    ++ (0 ∷ 4 ∷ 0 ∷ 16 ∷ 0 ∷ [])
-    ++ (0 ∷ 4 ∷ 0 ∷ 16 ∷ 0 ∷ [])
+    start 6 2 8 3
+    ++ rowWords 0 20 0 0 0
+    ++ rowWords 1 8 0 0 0
+    ++ rowWords 0 1 1 4 0
+    ++ rowWords 0 2 0 4 0
+    ++ rowWords 1 0 0 8 3
+    ++ rowWords 0 2 0 4 0
+    ++ rowWords 0 4 0 32 0
+    ++ rowWords 0 32 0 16 0
+    ++ rowWords 0 4 0 16 0
+    ++ rowWords 0 4 0 16 0
 
 -- After actions 0 and 2, in either order, member 0 has its goal and can wait in action 1, and member 1 lacks its goal
 -- and can wait in actions 3 and 4.
 abbrev pub endedWaits : List ℕ
 endedWaits =
-    (6 ∷ 2 ∷ 5 ∷ 3 ∷ 0 ∷ [])
-    ++ (0 ∷ 4 ∷ 0 ∷ 0 ∷ 0 ∷ [])
-    ++ (1 ∷ 8 ∷ 0 ∷ 0 ∷ 0 ∷ [])
-    ++ (0 ∷ 0 ∷ 0 ∷ 4 ∷ 2 ∷ [])
-    ++ (0 ∷ 5 ∷ 1 ∷ 16 ∷ 0 ∷ [])
-    ++ (1 ∷ 1 ∷ 0 ∷ 32 ∷ 1 ∷ [])
-    ++ (1 ∷ 34 ∷ 2 ∷ 8 ∷ 0 ∷ [])
-    ++ (1 ∷ 34 ∷ 2 ∷ 8 ∷ 0 ∷ [])
+    start 6 2 5 3
+    ++ rowWords 0 4 0 0 0
+    ++ rowWords 1 8 0 0 0
+    ++ rowWords 0 0 0 4 2
+    ++ rowWords 0 5 1 16 0
+    ++ rowWords 1 1 0 32 1
+    ++ rowWords 1 34 2 8 0
+    ++ rowWords 1 34 2 8 0
 
 -- the same with goals that both members have there
 abbrev pub allEnded : List ℕ
@@ -127,14 +132,14 @@ toldOf (gives p) = gives (record { reply = p .reply; shared = p .run .run .share
 
 -- a row of the table: a law's verdict with so many local and configuration words, the other slices as long as asked; a
 -- replay's answer; the configurations that are listed; the task check's refusal; a step's answer; solo search in a
--- table of so many words, with as many marks; an ask, a pick and a commit on a run with L1's plans
+-- table of so many words, with so many marks; an ask, a pick and a commit on a run with L1's plans
 pub data Claim : Type 0 where
   verdictOf : List ℕ → ℕ → ℕ → Answer (Verdict Conflict) → Claim
   replayOf : List ℕ → List ℕ → List ℕ → List ℕ → Answer (Replay ℕ) → Claim
   listedOf : List ℕ → List (List ℕ) → Claim
   checkOf : List ℕ → ℕ → Claim
   stepOf : List ℕ → ℕ → ℕ → Answer (Decision ℕ) → Claim
-  searchOf : List ℕ → ℕ → ℕ → SoloSearch → Claim
+  searchOf : List ℕ → ℕ → ℕ → ℕ → SoloSearch → Claim
   askOf : List ℕ → Numbered ℕ → ℕ → Answer (Asked ℕ) → Claim
   pickOf : List ℕ → Numbered ℕ → ℕ → Answer Told → Claim
   commitOf : List ℕ → Numbered ℕ → Ticket → Answer Told → Claim
@@ -148,7 +153,7 @@ roomFor t localWords words =
 
 -- room enough for each of these laws: 8 local copies a member, 16 configurations
 abbrev pub plenty : ℕ
-plenty = 48
+plenty = 96
 
 abbrev pub Holds : Claim → Type 0
 Holds (verdictOf t localWords words v) = verdict t (roomFor t localWords words) ≡ v
@@ -156,7 +161,7 @@ Holds (replayOf t plans ends picks r) = jointReplay t plans ends picks ≡ r
 Holds (listedOf t rows) = listedIn t (roomFor t plenty plenty) ≡ rows
 Holds (checkOf t k) = check t ≡ k
 Holds (stepOf t a g d) = step t a g ≡ d
-Holds (searchOf t i n s) = soloSearch t i (replicate n 7) (replicate n 7) ≡ s
+Holds (searchOf t i n m s) = soloSearch t i (replicate n 7) (replicate m 7) ≡ s
 Holds (askOf t d j a) = askOn t plansOfL1 endsOfL1 d j ≡ a
 Holds (pickOf t d j a) = toldOf (pickNumbered t plansOfL1 endsOfL1 d j) ≡ a
 Holds (commitOf t d k a) = toldOf (commitOn t plansOfL1 endsOfL1 d k) ≡ a
@@ -197,10 +202,10 @@ table =
     ∷ replayOf l7 (0 ∷ 1 ∷ []) (1 ∷ 2 ∷ []) (1 ∷ 0 ∷ []) (ends success 3 2)
     ∷ listedOf l7 ((0 ∷ 0 ∷ 0 ∷ []) ∷ (1 ∷ 0 ∷ 1 ∷ []) ∷ (0 ∷ 2 ∷ 2 ∷ []) ∷ (1 ∷ 2 ∷ 2 ∷ []) ∷ (1 ∷ 2 ∷ 3 ∷ []) ∷ [])
     ∷ verdictOf l8 plenty plenty (gives (robust 1))
-    ∷ verdictOf l1 plenty 35 (refused 9)
-    ∷ verdictOf l1 plenty 36 (gives (robust 12))
-    ∷ verdictOf l1 7 plenty (refused 9)
-    ∷ verdictOf l1 8 plenty (gives (robust 12))
+    ∷ verdictOf l1 plenty 71 (refused 9)
+    ∷ verdictOf l1 plenty 72 (gives (robust 12))
+    ∷ verdictOf l1 15 plenty (refused 9)
+    ∷ verdictOf l1 16 plenty (gives (robust 12))
     ∷ verdictOf l11 plenty plenty (refused 4)
     ∷ verdictOf l12 plenty plenty (refused 6)
     ∷ []
@@ -212,19 +217,19 @@ further =
     ∷ stepOf l1 0 0 (gives wait)
     ∷ stepOf l2 0 0 (gives Decision.collision)
     -- a fact in both add and del ends true
-    ∷ stepOf (with 3 3 3 l1) 0 1 (gives (go 3))
+    ∷ stepOf (with 3 5 3 l1) 0 1 (gives (go 3))
     ∷ stepOf l1 4 32 (refused 7)
     ∷ stepOf l1 0 32 (refused 4)
     ∷ checkOf (5 ∷ 2 ∷ 4 ∷ 1 ∷ []) 1
-    ∷ checkOf (with 0 0 65 l1 ++ (0 ∷ [])) 2
+    ∷ checkOf (with 0 0 129 l1 ++ (0 ∷ [])) 2
     ∷ checkOf (with 0 3 32 l1 ++ (0 ∷ [])) 1
     ∷ checkOf (with 0 3 32 (with 1 0 9 l1)) 4
     ∷ checkOf (with 1 0 9 (with 1 1 32 l1)) 3
     ∷ checkOf (with 1 1 32 (with 2 0 9 l1)) 4
     ∷ checkOf (with 2 1 32 (with 3 0 2 l1)) 4
     ∷ checkOf (with 3 0 2 (with 3 1 32 l1)) 5
-    ∷ checkOf (with 3 2 32 l1) 4
-    ∷ checkOf (with 3 2 2 (with 4 0 2 l1)) 6
+    ∷ checkOf (with 3 3 32 l1) 4
+    ∷ checkOf (with 3 3 2 (with 4 0 2 l1)) 6
     -- collision, by the lowest action, before deadlock; then the shortest way on, by the lowest action
     ∷ verdictOf collisionFirst plenty plenty (conflict collision 1 ((1 ∷ 6 ∷ []) ∷ (2 ∷ []) ∷ []) (1 ∷ 0 ∷ []))
     -- by the moves that first listed the row; who has its goal ends
@@ -240,13 +245,70 @@ further =
     ∷ replayOf l1 (0 ∷ 1 ∷ 2 ∷ 3 ∷ []) (2 ∷ 4 ∷ []) (0 ∷ []) (ends still-open 2 1)
     ∷ []
 
--- solo searches: all live, one live and one dead, none live, and one row too few
+-- solo searches: all live, with an odd word and a mark to spare; one live and one dead; none live; one row too few;
+-- and a table whose rows are as many as the marks
 abbrev pub searches : List Claim
 searches =
-    searchOf l1 0 5 (finds 4 true 4 (1 ∷ 2 ∷ 5 ∷ 6 ∷ 0 ∷ []) (1 ∷ 1 ∷ 1 ∷ 1 ∷ 0 ∷ []))
-    ∷ searchOf l8 0 4 (finds 2 true 1 (1 ∷ 2 ∷ 0 ∷ 0 ∷ []) (1 ∷ 0 ∷ 0 ∷ 0 ∷ []))
-    ∷ searchOf l4 1 4 (finds 4 false 0 (1 ∷ 8 ∷ 17 ∷ 24 ∷ []) (0 ∷ 0 ∷ 0 ∷ 0 ∷ []))
-    ∷ searchOf l1 0 3 (refusedWith (0 ∷ 0 ∷ 0 ∷ []) (0 ∷ 0 ∷ 0 ∷ []) 9)
+    searchOf l1 0 11 6 (finds 4 true 4 (1 ∷ 0 ∷ 2 ∷ 0 ∷ 5 ∷ 0 ∷ 6 ∷ 0 ∷ 0 ∷ 0 ∷ 0 ∷ []) (1 ∷ 1 ∷ 1 ∷ 1 ∷ 0 ∷ 0 ∷ []))
+    ∷ searchOf l8 0 8 4 (finds 2 true 1 (1 ∷ 0 ∷ 2 ∷ 0 ∷ 0 ∷ 0 ∷ 0 ∷ 0 ∷ []) (1 ∷ 0 ∷ 0 ∷ 0 ∷ []))
+    ∷ searchOf l4 1 8 4 (finds 4 false 0 (1 ∷ 0 ∷ 8 ∷ 0 ∷ 17 ∷ 0 ∷ 24 ∷ 0 ∷ []) (0 ∷ 0 ∷ 0 ∷ 0 ∷ []))
+    ∷ searchOf l1 0 7 3 (refusedWith (0 ∷ 0 ∷ 0 ∷ 0 ∷ 0 ∷ 0 ∷ 0 ∷ []) (0 ∷ 0 ∷ 0 ∷ []) 9)
+    ∷ searchOf l1 0 8 3 (refusedWith (replicate 8 7) (replicate 3 7) 14)
+    ∷ []
+
+-- ---- laws of more than 64 facts (document 02, F-5)
+
+-- L1 with each fact higher by 61, so that facts 0 to 2 stand in the low words and 3 and 4 in the high ones
+abbrev pub acrossWords : List ℕ
+acrossWords =
+    let up : ℕ → ℕ = λ x. 2 ^ 61 * x in
+    start 66 2 4 (up 1)
+    ++ rowWords 0 (up 5) 0 0 0
+    ++ rowWords 1 (up 17) 0 0 0
+    ++ rowWords 0 (up 1) (up 1) (up 2) (up 1)
+    ++ rowWords 0 (up 2) 0 (up 5) (up 2)
+    ++ rowWords 1 (up 1) (up 1) (up 8) (up 1)
+    ++ rowWords 1 (up 8) 0 (up 17) (up 8)
+
+-- L7 in fact 0 and fact 127
+abbrev pub farApart : List ℕ
+farApart =
+    (128 ∷ 2 ∷ 2 ∷ 0 ∷ 0 ∷ 0 ∷ 0 ∷ 0 ∷ 0 ∷ [])
+    ++ (0 ∷ 0 ∷ 9223372036854775808 ∷ 0 ∷ 0 ∷ 0 ∷ 0 ∷ 0 ∷ 0 ∷ [])
+    ++ (1 ∷ 1 ∷ 0 ∷ 0 ∷ 0 ∷ 0 ∷ 0 ∷ 0 ∷ 0 ∷ [])
+    ++ (0 ∷ 0 ∷ 0 ∷ 0 ∷ 0 ∷ 0 ∷ 9223372036854775808 ∷ 0 ∷ 0 ∷ [])
+    ++ (1 ∷ 0 ∷ 0 ∷ 0 ∷ 0 ∷ 1 ∷ 0 ∷ 0 ∷ 9223372036854775808 ∷ [])
+
+-- their answers, and what the check says of the words that the wider rows have more
+abbrev pub wider : List Claim
+wider =
+    verdictOf acrossWords plenty plenty (gives (robust 12))
+    -- nobody waits: the colliding step lacks a fact of the low word, and another one of the high word
+    ∷ verdictOf (with 3 3 0 (with 5 3 0 acrossWords)) plenty plenty
+    (conflict collision 1 ((0 ∷ 1 ∷ []) ∷ (2 ∷ 3 ∷ []) ∷ []) (0 ∷ 1 ∷ []))
+    ∷ searchOf acrossWords 1 8 4
+    (finds 4 true 4 (2 ^ 61 ∷ 0 ∷ 0 ∷ 1 ∷ 2 ^ 61 ∷ 2 ∷ 0 ∷ 3 ∷ []) (1 ∷ 1 ∷ 1 ∷ 1 ∷ []))
+    ∷ verdictOf farApart plenty plenty (conflict (missed 0) 2 ((0 ∷ []) ∷ (1 ∷ []) ∷ []) (0 ∷ 1 ∷ []))
+    ∷ replayOf farApart (0 ∷ 1 ∷ []) (1 ∷ 2 ∷ []) (1 ∷ 0 ∷ []) (ends success (2 ^ 127 + 1) 2)
+    ∷ stepOf farApart 0 0 (gives (go (2 ^ 127)))
+    ∷ stepOf farApart 0 (2 ^ 128) (refused 4)
+    -- eight words are too few; F goes to 128; words 5 to 8 of row 0 are zero, words 3 to 8 of a goal row
+    ∷ checkOf (5 ∷ 2 ∷ 4 ∷ 1 ∷ 0 ∷ 0 ∷ 0 ∷ 0 ∷ []) 1
+    ∷ checkOf (with 0 0 128 l1) 0
+    ∷ checkOf (with 0 0 129 l1) 2
+    ∷ checkOf (with 0 5 1 l1) 2
+    ∷ checkOf (with 0 8 1 l1) 2
+    ∷ checkOf (with 1 3 1 l1) 3
+    ∷ checkOf (with 1 8 1 l1) 3
+    -- a bit of a high word at or above F, and just below it
+    ∷ checkOf (with 0 4 1 l1) 4
+    ∷ checkOf (with 0 0 65 (with 0 4 1 l1)) 0
+    ∷ checkOf (with 0 0 65 (with 2 2 2 l1)) 4
+    ∷ checkOf (with 3 4 1 l1) 4
+    ∷ checkOf (with 3 6 1 l1) 4
+    ∷ checkOf (with 3 8 1 l1) 4
+    -- a fact of a high word that is waited for and is no precondition
+    ∷ checkOf (with 0 0 65 (with 3 4 1 l1)) 6
     ∷ []
 
 -- ---- runs with their change number (document 02, F-4)

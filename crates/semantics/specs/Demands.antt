@@ -40,6 +40,7 @@ use lib.ListN.{length, getD, take, drop}
 use lib.Dec.{eqb}
 use Rattle.semantics.specs.Base.{Answer, refused, gives, padded}
 use Rattle.semantics.specs.Mask.{has, below}
+use Rattle.semantics.specs.Words.{statesIn, firstStates}
 use Rattle.semantics.specs.Task as Task
 use Rattle.semantics.specs.Task.{check, facts, members, actions, owner}
 use Rattle.semantics.specs.System.{System, Waits, result, system, waits, Choice}
@@ -234,17 +235,18 @@ pub record SearchedRows (t : List ℕ) (i : ℕ) (rows marks : List ℕ) : Type 
 
 pub record SoloSearchAgrees (t : List ℕ) (i : ℕ) (table marks : List ℕ) : Type 0 where
   -- 9 exactly when the reachable copies exceed the table
-  pub full : (soloSearch t i table marks .answer ≡ refused 9) ↔ Exceed 0 (Reachable t i) (length table)
-  -- else an answer: the number of reachable copies, at most the table's length, whether I is live, and the number of
-  -- those copies from which the agent can go on to its goal
+  pub full : (soloSearch t i table marks .answer ≡ refused 9) ↔ Exceed 0 (Reachable t i) (statesIn (length table))
+  -- else an answer: the number of reachable copies, at most as many as the table takes, whether I is live, and the
+  -- number of those copies from which the agent can go on to its goal
   pub counted : (c : Searched) → (soloSearch t i table marks .answer ≡ gives c)
-      ↔ ((c .count ≤ length table)
+      ↔ ((c .count ≤ statesIn (length table))
       × ((xs : List ℕ) × Lists 0 (Reachable t i) xs × (length xs ≡ c .count))
       × ((c .live ≡ true) ↔ Solvable t i)
       × ((xs : List ℕ) × Lists 0 (λ s. Reachable t i s × Completable t i s) xs × (length xs ≡ c .marked)))
-  -- and the rows, of which so many are marked 1
+  -- and the rows that stand in the table, of which so many are marked 1
   pub rows : (c : Searched) → soloSearch t i table marks .answer ≡ gives c
-      → SearchedRows t i (take (c .count) (soloSearch t i table marks .table)) (soloSearch t i table marks .marks)
+      → SearchedRows t i (firstStates (soloSearch t i table marks .table) (c .count))
+      (soloSearch t i table marks .marks)
 
 pub record Demand2 : Type 0 where
   pub stepAgrees : (t : List ℕ) (a g : ℕ) → stepRefusal t a g ≡ 0 → StepAgrees t a g
@@ -258,7 +260,7 @@ pub record Demand2 : Type 0 where
   pub askAnswers : (t plans ends : List ℕ) (d : Numbered ℕ) (i : ℕ) (a : Asked ℕ) → askOn t plans ends d i ≡ gives a
       → RunFits t plans ends (d .run)
   pub soloSearchAgrees : (t : List ℕ) (i : ℕ) (table marks : List ℕ)
-      → searchRefusal t i (length table) (length marks) ≡ 0 → SoloSearchAgrees t i table marks
+      → searchRefusal t i (statesIn (length table)) (length marks) ≡ 0 → SoloSearchAgrees t i table marks
 
 -- ---- demand 3: robustness
 

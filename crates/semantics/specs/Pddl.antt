@@ -6,6 +6,8 @@ use lib.ListN.{length}
 use lib.Dec.{eqb, ltb, leb}
 use lib.Bits.{bitOr}
 use Rattle.semantics.specs.Base.{anyOf, allOf, collect, _if_, _else_, gives, _leaves_otherwise_, padded, zeroed}
+use Rattle.semantics.specs.Words as Words
+use Rattle.semantics.specs.Words.{rowWords}
 use Rattle.semantics.specs.Task.{check, between}
 use Rattle.semantics.specs.Text.{cr, lf, isDigit, records, isRecord, textWords, Reading, refusedWith}
 
@@ -337,7 +339,7 @@ named ms waits =
 -- ---- limits
 
 unfoldable pub inLimits : List Member → Bool
-inLimits ms = leb (length (predicatesOf ms)) 64 && leb (length ms) 8 && leb (length (actionsOf ms)) 256
+inLimits ms = leb (length (predicatesOf ms)) 128 && leb (length ms) 8 && leb (length (actionsOf ms)) 256
 
 -- ---- words
 
@@ -368,16 +370,16 @@ module _ (P : List (List ℕ)) where
   -- the goal rows of the members from number i on
   unfoldable pub goalRows : ℕ → List Member → List ℕ
   goalRows i [] = []
-  goalRows i (m ∷ ms) = i ∷ factMask false (m .own .goals) ∷ 0 ∷ 0 ∷ 0 ∷ goalRows (suc i) ms
+  goalRows i (m ∷ ms) = rowWords i (factMask false (m .own .goals)) 0 0 0 ++ goalRows (suc i) ms
 
   module _ (waits : List ℕ) where
     -- the rows of member i's actions from number a on
     unfoldable pub ownRows : ℕ → ℕ → List Action → List ℕ
     ownRows i a [] = []
     ownRows i a (x ∷ xs) =
-        i ∷ factMask false (x .precondition) ∷ waitMask a waits ∷ factMask false (x .effects) ∷ factMask true
-        (x .effects)
-        ∷ ownRows i (suc a) xs
+        rowWords i (factMask false (x .precondition)) (waitMask a waits) (factMask false (x .effects))
+        (factMask true (x .effects))
+        ++ ownRows i (suc a) xs
 
     unfoldable pub actionRows : ℕ → ℕ → List Member → List ℕ
     actionRows i a [] = []
@@ -386,8 +388,8 @@ module _ (P : List (List ℕ)) where
 
     unfoldable pub wordsOf : List Member → List ℕ
     wordsOf ms =
-        length P ∷ length ms ∷ length (actionsOf ms) ∷ maskOf P (initiallyOf ms) ∷ 0
-        ∷ (goalRows 0 ms ++ actionRows 0 0 ms)
+        length P ∷ length ms ∷ length (actionsOf ms)
+        ∷ (Words.wordsOf (maskOf P (initiallyOf ms)) ++ (0 ∷ 0 ∷ 0 ∷ 0 ∷ (goalRows 0 ms ++ actionRows 0 0 ms)))
 
 -- ---- the reader
 

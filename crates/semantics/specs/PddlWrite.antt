@@ -8,6 +8,7 @@ use lib.ListN.{length, take}
 use lib.Dec.{eqb, ltb}
 use Rattle.semantics.specs.Base.{upTo, keep, _if_, Answer, refused, gives, _leaves_otherwise_, padded}
 use Rattle.semantics.specs.Mask.{has}
+use Rattle.semantics.specs.Words.{rowWords}
 use Rattle.semantics.specs.Task.{rowWidth, facts, members, actions, initial, goal, owner, pre, wait, add, del}
 use Rattle.semantics.specs.Task.{check}
 use Rattle.semantics.specs.Text.{comma, cr, lf, digits}
@@ -23,7 +24,7 @@ unfoldable pub order : List ℕ → List ℕ
 order t = flatten (map (own t) (upTo (members t)))
 
 unfoldable pub rowOf : List ℕ → ℕ → List ℕ
-rowOf t a = owner t a ∷ pre t a ∷ wait t a ∷ add t a ∷ del t a ∷ []
+rowOf t a = rowWords (owner t a) (pre t a) (wait t a) (add t a) (del t a)
 
 -- row 0 and the goal rows, then the action rows in this order
 unfoldable pub grouped : List ℕ → List ℕ

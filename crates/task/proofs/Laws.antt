@@ -2,16 +2,17 @@
 use mathlib.Core.Path.{_≡_, refl, sym, _∙_}
 use mathlib.Core.Bool.{Bool, true, false, not, _&&_}
 use mathlib.Core.List.{List}
-use Prim.Native.Nat.{ℕ, _+_, _*_, _≤_, _<_}
+use Prim.Native.Nat.{ℕ, _+_, _-_, _*_, _^_, _≤_, _<_}
 use native.Mathlib.Omega.{arith}
-use lib.ListN.{length}
+use lib.ListN.{length, getD}
 use lib.Dec.{eqb, leb}
 use borrow.Author.Tests.{lt-ltb, le-ltb, le-leb, lt-leb, eq-eqb, ne-eqb, leb-true, eqb-true, not-true, not-false}
-use Rattle.semantics.specs.Base.{_if_}
+use Rattle.semantics.specs.Base.{upTo, allOf, _if_}
 use Rattle.semantics.specs.Mask.{within, below}
-use Rattle.semantics.specs.Task.{rowWidth, word, facts, members, actions, initial, goal, actionWord, owner, pre, wait}
-use Rattle.semantics.specs.Task.{add, del, between, headFits, goalRow, actionRow, check}
+use Rattle.semantics.specs.Task.{rowWidth, word, maskIn, facts, members, actions, actionAt, owner, pre, wait, between}
+use Rattle.semantics.specs.Task.{zerosFrom, maskFits, headFits, goalRow, actionRow, check}
 use Rattle.theory.proofs.Lists.{and-elim}
+use Rattle.theory.proofs.Loops.{Rest, rest-begin, all-fails, all-onward, all-ends}
 use Rattle.task.specs.Inner.Shape.{Sized, masksBelow, rowsRefusal}
 
 and-right : (a b : Bool) → b ≡ false → (a && b) ≡ false
@@ -20,18 +21,53 @@ and-right false b h = refl
 
 -- ---- words and masks that are read
 
-pub below-is : (F x w m : ℕ) (b : Bool) → w ≡ x → m ≡ w → b ≡ below F m → b ≡ below F x
-below-is F x w m b e e₁ k = rw (← e, ← e₁) k
+abbrev zeroAt : List ℕ → ℕ → ℕ → ℕ → Bool
+zeroAt t r k j = eqb (word t r (k + j)) 0
+
+-- of the words of row r from word k on, the first j are passed over
+pub record Zeros (t : List ℕ) (r k j : ℕ) : Type 0 where
+  pub rest : Rest (allOf (zeroAt t r k)) (upTo (rowWidth - k)) j
+
+-- the words of a slice are words
+pub below-is : (t : List ℕ) (r k m : ℕ) (b : Bool) → ((j : ℕ) → getD t j 0 < 2 ^ 64) → m ≡ maskIn t r k
+    → b ≡ below (facts t) m → b ≡ maskFits t r k
+below-is t r k m b w e q = rw (lt-ltb (word t r k) (2 ^ 64) (w (rowWidth * r + k)), ← e) q
 
 pub within-is : (x y m n : ℕ) (b : Bool) → m ≡ x → n ≡ y → b ≡ within m n → b ≡ within x y
 within-is x y m n b e e₁ k = rw (← e, ← e₁) k
 
-pub action-word-is : (t : List ℕ) (n a k w : ℕ) → n ≡ members t → w ≡ word t (1 + n + a) k → w ≡ actionWord t a k
-action-word-is t n a k w e h = rw (← e) h
+-- a row's number told otherwise
+module _ (t : List ℕ) (r s k : ℕ) (e : r ≡ s) where
+  pub word-row : (w : ℕ) → w ≡ word t r k → w ≡ word t s k
+  word-row w h = rw (← e) h
 
-pub action-below-is : (t : List ℕ) (n a k : ℕ) (b : Bool) → n ≡ members t → b ≡ below (facts t) (word t (1 + n + a) k)
-    → b ≡ below (facts t) (actionWord t a k)
-action-below-is t n a k b e h = rw (← e) h
+  pub mask-row : (m : ℕ) → m ≡ maskIn t r k → m ≡ maskIn t s k
+  mask-row m h = rw (← e) h
+
+  pub fits-row : (b : Bool) → b ≡ maskFits t r k → b ≡ maskFits t s k
+  fits-row b h = rw (← e) h
+
+-- the words from k on that are zero
+module _ (t : List ℕ) (r k n j : ℕ) (e : n ≡ rowWidth - k) (l : Zeros t r k j) where
+  module _ (w : ℕ) (h : j < n) (q : w ≡ word t r (k + j)) where
+    pub zeros-fail : (w ≡ 0 → ⊥) → false ≡ zerosFrom t r k
+    zeros-fail z =
+        sym (all-fails (zeroAt t r k) (rowWidth - k) j (l .rest) (omega arith)
+        (ne-eqb (word t r (k + j)) 0 (λ x. z (q ∙ x))))
+
+    pub zeros-onward : w ≡ 0 → Zeros t r k (j + 1)
+    zeros-onward z =
+        record {
+          rest =
+              all-onward (zeroAt t r k) (rowWidth - k) j (l .rest) (omega arith)
+              (eq-eqb (word t r (k + j)) 0 (sym q ∙ z));
+        }
+
+  pub zeros-end : n ≤ j → true ≡ zerosFrom t r k
+  zeros-end h = sym (all-ends (zeroAt t r k) (rowWidth - k) j (l .rest) (omega arith))
+
+pub zeros-begin : (t : List ℕ) (r k : ℕ) → Zeros t r k 0
+zeros-begin t r k = record { rest = rest-begin (allOf (zeroAt t r k)) (upTo (rowWidth - k)) }
 
 -- ---- row 0
 
@@ -40,50 +76,51 @@ module _ (t : List ℕ) where
   unfolding headFits
   no-facts h = simp (lt-leb 1 (facts t) h)
 
-  pub many-facts : 1 ≤ facts t → 64 < facts t → false ≡ headFits t
+  pub many-facts : 1 ≤ facts t → 128 < facts t → false ≡ headFits t
   unfolding headFits
-  many-facts h k = simp (le-leb 1 (facts t) h, lt-leb (facts t) 64 k)
+  many-facts h k = simp (le-leb 1 (facts t) h, lt-leb (facts t) 128 k)
 
   pub no-members : members t < 1 → false ≡ headFits t
   unfolding headFits
   no-members h =
       let e : leb 1 (members t) ≡ false = lt-leb 1 (members t) h in
-      let e₁ = and-right (between 1 (facts t) 64) (leb 1 (members t) && leb (members t) 8) (rw e) in
+      let e₁ = and-right (between 1 (facts t) 128) (leb 1 (members t) && leb (members t) 8) (rw e) in
       rw e₁
 
   pub many-members : 8 < members t → false ≡ headFits t
   unfolding headFits
   many-members h =
       let e : leb (members t) 8 ≡ false = lt-leb (members t) 8 h in
-      let e₁ = and-right (between 1 (facts t) 64) (leb 1 (members t) && leb (members t) 8)
+      let e₁ = and-right (between 1 (facts t) 128) (leb 1 (members t) && leb (members t) 8)
       (and-right (leb 1 (members t)) (leb (members t) 8) e) in
       rw e₁
 
   pub many-actions : 256 < actions t → false ≡ headFits t
   unfolding headFits
   many-actions h =
-      let e = and-right (between 1 (facts t) 64 && between 1 (members t) 8) (leb (actions t) 256)
+      let e = and-right (between 1 (facts t) 128 && between 1 (members t) 8) (leb (actions t) 256)
       (lt-leb (actions t) 256 h) in
       rw e
 
-  pub head-last : 1 ≤ facts t → facts t ≤ 64 → 1 ≤ members t → members t ≤ 8 → actions t ≤ 256
-      → eqb (word t 0 4) 0 ≡ headFits t
+  pub head-last : 1 ≤ facts t → facts t ≤ 128 → 1 ≤ members t → members t ≤ 8 → actions t ≤ 256
+      → (z : Bool) → z ≡ zerosFrom t 0 5 → z ≡ headFits t
   unfolding headFits
-  head-last a b c d e =
-      simp (
+  head-last a b c d e z q =
+      rw (
         le-leb 1 (facts t) a,
-        le-leb (facts t) 64 b,
+        le-leb (facts t) 128 b,
         le-leb 1 (members t) c,
         le-leb (members t) 8 d,
         le-leb (actions t) 256 e,
+        ← q,
       )
 
   pub head-bounds : headFits t ≡ true → (members t ≤ 8) × (actions t ≤ 256)
   unfolding headFits
   head-bounds h =
-      let (x, last) = and-elim _ (eqb (word t 0 4) 0) h in
+      let (x, last) = and-elim _ (zerosFrom t 0 5) h in
       let (y, few) = and-elim _ _ x in
-      let (f, m) = and-elim (between 1 (facts t) 64) (between 1 (members t) 8) y in
+      let (f, m) = and-elim (between 1 (facts t) 128) (between 1 (members t) 8) y in
       let (m₁, m₂) = and-elim (leb 1 (members t)) (leb (members t) 8) m in
       (leb-true _ _ m₂, leb-true _ _ few)
 
@@ -95,81 +132,49 @@ module _ (t : List ℕ) where
 
 -- ---- a goal row
 
-module _ (t : List ℕ) (i : ℕ) where
-  shape : Bool
-  shape = eqb (word t (1 + i) 0) i && eqb (word t (1 + i) 2) 0 && eqb (word t (1 + i) 3) 0 && eqb (word t (1 + i) 4) 0
+module _ (t : List ℕ) (i w : ℕ) (e : w ≡ word t (1 + i) 0) where
+  pub wrong-member : (w ≡ i → ⊥) → 3 ≡ goalRow t i
+  unfolding goalRow
+  wrong-member h = rw (ne-eqb (word t (1 + i) 0) i (λ k. h (e ∙ k)))
 
-  misshapen : shape ≡ false → 3 ≡ goalRow t i
-  unfolding goalRow shape
-  misshapen h = rw h
-
-  module _ (w : ℕ) where
-    pub wrong-member : w ≡ word t (1 + i) 0 → (w ≡ i → ⊥) → 3 ≡ goalRow t i
-    unfolding shape
-    wrong-member e h = misshapen (rw (ne-eqb (word t (1 + i) 0) i (λ k. h (e ∙ k))))
-
-    pub wrong-2 : w ≡ word t (1 + i) 2 → (w ≡ 0 → ⊥) → 3 ≡ goalRow t i
-    unfolding shape
-    wrong-2 e h =
-        let x : eqb (word t (1 + i) 2) 0 ≡ false = ne-eqb (word t (1 + i) 2) 0 (λ k. h (e ∙ k)) in
-        misshapen (rw (and-right (eqb (word t (1 + i) 0) i) (eqb (word t (1 + i) 2) 0) x))
-
-    pub wrong-3 : w ≡ word t (1 + i) 3 → (w ≡ 0 → ⊥) → 3 ≡ goalRow t i
-    unfolding shape
-    wrong-3 e h =
-        let x : eqb (word t (1 + i) 3) 0 ≡ false = ne-eqb (word t (1 + i) 3) 0 (λ k. h (e ∙ k)) in
-        misshapen (rw (and-right (eqb (word t (1 + i) 0) i && eqb (word t (1 + i) 2) 0) (eqb (word t (1 + i) 3) 0) x))
-
-    pub wrong-4 : w ≡ word t (1 + i) 4 → (w ≡ 0 → ⊥) → 3 ≡ goalRow t i
-    unfolding shape
-    wrong-4 e h =
-        misshapen
-        (and-right (eqb (word t (1 + i) 0) i && eqb (word t (1 + i) 2) 0 && eqb (word t (1 + i) 3) 0)
-        (eqb (word t (1 + i) 4) 0) (ne-eqb (word t (1 + i) 4) 0 (λ k. h (e ∙ k))))
-
-  module _ (w₀ w₂ w₃ w₄ : ℕ)
-      (e₀ : w₀ ≡ word t (1 + i) 0) (h₀ : (w₀ ≡ i))
-      (e₂ : w₂ ≡ word t (1 + i) 2) (h₂ : w₂ ≡ 0)
-      (e₃ : w₃ ≡ word t (1 + i) 3) (h₃ : w₃ ≡ 0)
-      (e₄ : w₄ ≡ word t (1 + i) 4) (h₄ : w₄ ≡ 0) (b : Bool) (e : b ≡ below (facts t) (goal t i)) where
-    shaped : goalRow t i ≡ 4 if not (below (facts t) (goal t i))
+  module _ (h : w ≡ i) (z : Bool) (q : z ≡ zerosFrom t (1 + i) 3) where
+    pub wrong-zeros : not z ≡ true → 3 ≡ goalRow t i
     unfolding goalRow
-    shaped =
-        simp (
-          eq-eqb (word t (1 + i) 0) i (sym e₀ ∙ h₀),
-          eq-eqb (word t (1 + i) 2) 0 (sym e₂ ∙ h₂),
-          eq-eqb (word t (1 + i) 3) 0 (sym e₃ ∙ h₃),
-          eq-eqb (word t (1 + i) 4) 0 (sym e₄ ∙ h₄),
-        )
+    wrong-zeros k = rw (eq-eqb (word t (1 + i) 0) i (sym e ∙ h), ← q, not-true z k)
 
-    pub goal-above : not b ≡ true → 4 ≡ goalRow t i
-    goal-above h = rw (shaped, ← e, h)
+    module _ (k : not z ≡ false) (b : Bool) (p : b ≡ maskFits t (1 + i) 1) where
+      shaped : goalRow t i ≡ 4 if not b
+      unfolding goalRow
+      shaped = rw (eq-eqb (word t (1 + i) 0) i (sym e ∙ h), ← q, not-false z k, ← p)
 
-    pub goal-right : not b ≡ false → 0 ≡ goalRow t i
-    goal-right h = rw (shaped, ← e, h)
+      pub goal-above : not b ≡ true → 4 ≡ goalRow t i
+      goal-above l = rw (shaped, l)
+
+      pub goal-right : not b ≡ false → 0 ≡ goalRow t i
+      goal-right l = rw (shaped, l)
 
 -- ---- an action row
 
 module _ (t : List ℕ) (a : ℕ) where
   module _ (b : Bool) where
-    pub pre-above : b ≡ below (facts t) (pre t a) → not b ≡ true → false ≡ masksBelow t a
+    pub pre-above : b ≡ maskFits t (actionAt t a) 1 → not b ≡ true → false ≡ masksBelow t a
     unfolding masksBelow
     pre-above e h = rw (← e, not-true b h)
 
-    pub wait-above : b ≡ below (facts t) (wait t a) → not b ≡ true → false ≡ masksBelow t a
+    pub wait-above : b ≡ maskFits t (actionAt t a) 3 → not b ≡ true → false ≡ masksBelow t a
     unfolding masksBelow
     wait-above e h =
-        rw (and-right (below (facts t) (pre t a)) (below (facts t) (wait t a)) (sym e ∙ not-true b h))
+        rw (and-right (maskFits t (actionAt t a) 1) (maskFits t (actionAt t a) 3) (sym e ∙ not-true b h))
 
-    pub add-above : b ≡ below (facts t) (add t a) → not b ≡ true → false ≡ masksBelow t a
+    pub add-above : b ≡ maskFits t (actionAt t a) 5 → not b ≡ true → false ≡ masksBelow t a
     unfolding masksBelow
     add-above e h =
-        rw (and-right (below (facts t) (pre t a) && below (facts t) (wait t a)) (below (facts t) (add t a))
+        rw (and-right (maskFits t (actionAt t a) 1 && maskFits t (actionAt t a) 3) (maskFits t (actionAt t a) 5)
         (sym e ∙ not-true b h))
 
   module _ (p w d c : Bool) where
-    pub masks-last : p ≡ below (facts t) (pre t a) → not p ≡ false → w ≡ below (facts t) (wait t a) → not w ≡ false
-        → d ≡ below (facts t) (add t a) → not d ≡ false → c ≡ below (facts t) (del t a) → c ≡ masksBelow t a
+    pub masks-last : p ≡ maskFits t (actionAt t a) 1 → not p ≡ false → w ≡ maskFits t (actionAt t a) 3 → not w ≡ false
+        → d ≡ maskFits t (actionAt t a) 5 → not d ≡ false → c ≡ maskFits t (actionAt t a) 7 → c ≡ masksBelow t a
     unfolding masksBelow
     masks-last e₁ h₁ e₂ h₂ e₃ h₃ e₄ = rw (← e₁, ← e₂, ← e₃, ← e₄, not-false p h₁, not-false w h₂, not-false d h₃)
 
@@ -215,7 +220,7 @@ module _ (t : List ℕ) where
       unfolding check
       check-size k₁ = rw (le-ltb (length t) rowWidth h, ← e, not-false f k, ← e₁, not-true s k₁)
 
-      module _ (k₁ : not s ≡ false) (b : Bool) (e₂ : b ≡ below (facts t) (initial t)) where
+      module _ (k₁ : not s ≡ false) (b : Bool) (e₂ : b ≡ maskFits t 0 3) where
         pub check-initial : not b ≡ true → 4 ≡ check t
         unfolding check
         check-initial k₂ =

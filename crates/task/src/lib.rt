@@ -5,16 +5,16 @@ ghost use Prim.Native.Nat.{_+_, _*_, _≤_, _<_};
 ghost use lib.ListN.{length};
 ghost use lib.Dec.{eqb};
 ghost use Rattle.semantics.specs.Base.{upTo, firstRefusal};
-ghost use Rattle.semantics.specs.Task.{rowWidth, word, facts, members, actions, initial, goal};
-ghost use Rattle.semantics.specs.Task.{actionWord, owner, pre, wait, add, del, headFits, goalRow};
-ghost use Rattle.semantics.specs.Task.{actionRow, check};
+ghost use Rattle.semantics.specs.Task.{rowWidth, word, maskIn, facts, members, actions, initial};
+ghost use Rattle.semantics.specs.Task.{goal, actionAt, owner, pre, wait, add, del, zerosFrom};
+ghost use Rattle.semantics.specs.Task.{maskFits, headFits, goalRow, actionRow, check};
 ghost use Rattle.mask.specs.Number.{number};
-ghost use Rattle.semantics.specs.Mask.{below, within};
+ghost use Rattle.semantics.specs.Mask.{within};
 ghost use Rattle.task.specs.Inner.Shape.{Sized, masksBelow, rowsRefusal};
 use mask::Mask;
 
-// Words in a row.
-const ROW: usize = 5;
+// Words in a row: a number, then four masks.
+const ROW: usize = 9;
 
 // Word k of row r.
 fn word(t: &[u64], r: usize, k: usize) -> u64
@@ -24,20 +24,67 @@ fn word(t: &[u64], r: usize, k: usize) -> u64
     t[ROW * r + k]
 }
 
-// Word k of action a's row.
-fn action_word(t: &[u64], a: usize, k: usize) -> u64
+// The mask in words k and k + 1 of row r.
+fn mask_in(t: &[u64], r: usize, k: usize) -> Mask
+    requires { ⌜ rowWidth * r + k + 1 < length (now t) ⌝ }
+    ensures { λ m. ⌜ number m ≡ maskIn (now (t .entry)) r k ⌝ }
+{
+    let low = word(t, r, k);
+    let high = word(t, r, k + 1);
+    mask::of_words(low, high)
+}
+
+// The row of action a.
+fn action_at(t: &[u64], a: usize) -> usize
     requires { ⌜ Sized (now t) ⌝ }
     requires { ⌜ a < actions (now t) ⌝ }
-    requires { ⌜ k < rowWidth ⌝ }
-    ensures { λ w. ⌜ w ≡ actionWord (now (t .entry)) a k ⌝ }
+    ensures { λ r. ⌜ r ≡ actionAt (now (t .entry)) a ⌝ }
 {
     let n = word(t, 0, 1) as usize;
-    word(t, 1 + n + a, k)
+    1 + n + a
+}
+
+// The member in action a's row.
+fn owner_word(t: &[u64], a: usize) -> u64
+    requires { ⌜ Sized (now t) ⌝ }
+    requires { ⌜ a < actions (now t) ⌝ }
+    ensures { λ w. ⌜ w ≡ owner (now (t .entry)) a ⌝ }
+{
+    let r = action_at(t, a);
+    word(t, r, 0)
+}
+
+// The mask in words k and k + 1 of action a's row.
+fn action_mask(t: &[u64], a: usize, k: usize) -> Mask
+    requires { ⌜ Sized (now t) ⌝ }
+    requires { ⌜ a < actions (now t) ⌝ }
+    requires { ⌜ k + 1 < rowWidth ⌝ }
+    ensures { λ m. ⌜ number m ≡ maskIn (now (t .entry)) (actionAt (now (t .entry)) a) k ⌝ }
+{
+    let r = action_at(t, a);
+    mask_in(t, r, k)
 }
 
 // ---- the task check
 
-// F, n, m and the last word of row 0 are in their ranges.
+// The words of row r from word k on are zero.
+fn zeros(t: &[u64], r: usize, k: usize) -> bool
+    requires { ⌜ rowWidth * r + rowWidth ≤ length (now t) ⌝ }
+    requires { ⌜ k ≤ rowWidth ⌝ }
+    ensures { λ b. ⌜ b ≡ zerosFrom (now (t .entry)) r k ⌝ }
+{
+    let n = ROW - k;
+    let mut j = 0;
+    while j < n {
+        if word(t, r, k + j) != 0 {
+            return false;
+        }
+        j += 1;
+    }
+    true
+}
+
+// F, n, m and the last four words of row 0 are in their ranges.
 fn head_fits(t: &[u64]) -> bool
     requires { ⌜ rowWidth ≤ length (now t) ⌝ }
     ensures { λ r. ⌜ r ≡ headFits (now (t .entry)) ⌝ }
@@ -45,7 +92,7 @@ fn head_fits(t: &[u64]) -> bool
     if t[0] < 1 {
         return false;
     }
-    if 64 < t[0] {
+    if 128 < t[0] {
         return false;
     }
     if t[1] < 1 {
@@ -57,7 +104,7 @@ fn head_fits(t: &[u64]) -> bool
     if 256 < t[2] {
         return false;
     }
-    t[4] == 0
+    zeros(t, 0, 5)
 }
 
 // The length is that of the rows.
@@ -73,12 +120,12 @@ fn sized(t: &[u64]) -> bool
     t.len() == ROW * (1 + n + m)
 }
 
-// No bit of word k of row r at or above F.
+// No bit of the mask in words k and k + 1 of row r at or above F.
 fn below(t: &[u64], r: usize, k: usize) -> bool
-    requires { ⌜ rowWidth * r + k < length (now t) ⌝ }
-    ensures { λ b. ⌜ b ≡ below (facts (now (t .entry))) (word (now (t .entry)) r k) ⌝ }
+    requires { ⌜ rowWidth * r + k + 1 < length (now t) ⌝ }
+    ensures { λ b. ⌜ b ≡ maskFits (now (t .entry)) r k ⌝ }
 {
-    mask::below(t[0], mask::of_word(word(t, r, k)))
+    mask::below(t[0], mask_in(t, r, k))
 }
 
 // Member i's goal row.
@@ -91,13 +138,7 @@ fn goal_row(t: &[u64], i: usize) -> u64
     if word(t, r, 0) != i as u64 {
         return 3;
     }
-    if word(t, r, 2) != 0 {
-        return 3;
-    }
-    if word(t, r, 3) != 0 {
-        return 3;
-    }
-    if word(t, r, 4) != 0 {
+    if !zeros(t, r, 3) {
         return 3;
     }
     if !below(t, r, 1) {
@@ -124,15 +165,15 @@ fn goal_rows(t: &[u64]) -> u64
     0
 }
 
-// No bit of word k of action a's row at or above F.
+// No bit of the mask in words k and k + 1 of action a's row at or above F.
 fn action_below(t: &[u64], a: usize, k: usize) -> bool
     requires { ⌜ Sized (now t) ⌝ }
     requires { ⌜ a < actions (now t) ⌝ }
-    requires { ⌜ k < rowWidth ⌝ }
-    ensures { λ b. ⌜ b ≡ below (facts (now (t .entry))) (actionWord (now (t .entry)) a k) ⌝ }
+    requires { ⌜ k + 1 < rowWidth ⌝ }
+    ensures { λ b. ⌜ b ≡ maskFits (now (t .entry)) (actionAt (now (t .entry)) a) k ⌝ }
 {
-    let n = word(t, 0, 1) as usize;
-    below(t, 1 + n + a, k)
+    let r = action_at(t, a);
+    below(t, r, k)
 }
 
 // The masks of action a have no bit at or above F.
@@ -144,23 +185,13 @@ fn masks_below(t: &[u64], a: usize) -> bool
     if !action_below(t, a, 1) {
         return false;
     }
-    if !action_below(t, a, 2) {
-        return false;
-    }
     if !action_below(t, a, 3) {
         return false;
     }
-    action_below(t, a, 4)
-}
-
-// Word k of action a's row as a mask.
-fn action_mask(t: &[u64], a: usize, k: usize) -> Mask
-    requires { ⌜ Sized (now t) ⌝ }
-    requires { ⌜ a < actions (now t) ⌝ }
-    requires { ⌜ k < rowWidth ⌝ }
-    ensures { λ m. ⌜ number m ≡ actionWord (now (t .entry)) a k ⌝ }
-{
-    mask::of_word(action_word(t, a, k))
+    if !action_below(t, a, 5) {
+        return false;
+    }
+    action_below(t, a, 7)
 }
 
 // What action a waits for is a precondition.
@@ -169,7 +200,7 @@ fn wait_in_pre(t: &[u64], a: usize) -> bool
     requires { ⌜ a < actions (now t) ⌝ }
     ensures { λ r. ⌜ r ≡ within (wait (now (t .entry)) a) (pre (now (t .entry)) a) ⌝ }
 {
-    let w = action_mask(t, a, 2);
+    let w = action_mask(t, a, 3);
     let p = action_mask(t, a, 1);
     mask::within(w, p)
 }
@@ -180,7 +211,7 @@ fn action_row(t: &[u64], a: usize) -> u64
     requires { ⌜ a < actions (now t) ⌝ }
     ensures { λ r. ⌜ r ≡ actionRow (now (t .entry)) a ⌝ }
 {
-    let o = action_word(t, a, 0);
+    let o = owner_word(t, a);
     let n = word(t, 0, 1);
     if n <= o {
         return 5;
@@ -254,14 +285,14 @@ fn head_word(t: &[u64], k: usize) -> u64
     word(t, 0, k)
 }
 
-// Word k of action a's row.
-fn field(t: &[u64], a: usize, k: usize) -> u64
+// The mask in words k and k + 1 of action a's row.
+fn field(t: &[u64], a: usize, k: usize) -> Mask
     requires { ⌜ check (now t) ≡ 0 ⌝ }
     requires { ⌜ a < actions (now t) ⌝ }
-    requires { ⌜ k < rowWidth ⌝ }
-    ensures { λ w. ⌜ w ≡ actionWord (now (t .entry)) a k ⌝ }
+    requires { ⌜ k + 1 < rowWidth ⌝ }
+    ensures { λ m. ⌜ number m ≡ maskIn (now (t .entry)) (actionAt (now (t .entry)) a) k ⌝ }
 {
-    action_word(t, a, k)
+    action_mask(t, a, k)
 }
 
 // F.
@@ -293,7 +324,7 @@ pub fn initial(t: &[u64]) -> Mask
     requires { ⌜ check (now t) ≡ 0 ⌝ }
     ensures { λ r. ⌜ number r ≡ initial (now (t .entry)) ⌝ }
 {
-    mask::of_word(head_word(t, 3))
+    mask_in(t, 0, 3)
 }
 
 // Member i's goal.
@@ -302,7 +333,7 @@ pub fn goal(t: &[u64], i: usize) -> Mask
     requires { ⌜ i < members (now t) ⌝ }
     ensures { λ r. ⌜ number r ≡ goal (now (t .entry)) i ⌝ }
 {
-    mask::of_word(word(t, 1 + i, 1))
+    mask_in(t, 1 + i, 1)
 }
 
 // The member whose action a is.
@@ -311,7 +342,7 @@ pub fn owner(t: &[u64], a: usize) -> usize
     requires { ⌜ a < actions (now t) ⌝ }
     ensures { λ r. ⌜ r ≡ owner (now (t .entry)) a ⌝ }
 {
-    field(t, a, 0) as usize
+    owner_word(t, a) as usize
 }
 
 // Action a's preconditions.
@@ -320,7 +351,7 @@ pub fn pre(t: &[u64], a: usize) -> Mask
     requires { ⌜ a < actions (now t) ⌝ }
     ensures { λ r. ⌜ number r ≡ pre (now (t .entry)) a ⌝ }
 {
-    mask::of_word(field(t, a, 1))
+    field(t, a, 1)
 }
 
 // Those that are waited for.
@@ -329,7 +360,7 @@ pub fn wait(t: &[u64], a: usize) -> Mask
     requires { ⌜ a < actions (now t) ⌝ }
     ensures { λ r. ⌜ number r ≡ wait (now (t .entry)) a ⌝ }
 {
-    mask::of_word(field(t, a, 2))
+    field(t, a, 3)
 }
 
 // The facts that action a makes true.
@@ -338,7 +369,7 @@ pub fn add(t: &[u64], a: usize) -> Mask
     requires { ⌜ a < actions (now t) ⌝ }
     ensures { λ r. ⌜ number r ≡ add (now (t .entry)) a ⌝ }
 {
-    mask::of_word(field(t, a, 3))
+    field(t, a, 5)
 }
 
 // The facts that it makes false, where it does not make them true.
@@ -347,5 +378,5 @@ pub fn del(t: &[u64], a: usize) -> Mask
     requires { ⌜ a < actions (now t) ⌝ }
     ensures { λ r. ⌜ number r ≡ del (now (t .entry)) a ⌝ }
 {
-    mask::of_word(field(t, a, 4))
+    field(t, a, 7)
 }

@@ -1,5 +1,5 @@
 -- How long a text of at most n records of w fields is: whoever has read one byte more need read no further.
--- A task's text has at most 28,090 bytes. Assumes nothing.
+-- A task's text has at most 50,350 bytes. Assumes nothing.
 use mathlib.Core.Path.{_≡_, refl, sym, ap, subst, _∙_}
 use mathlib.Core.Bool.{Bool, true, false, _&&_}
 use mathlib.Core.List.{List, [], _∷_, _++_, append-assoc, append-nil}
@@ -35,7 +35,7 @@ textBytes w n = n * (recordBytes w + 2)
 abbrev pub mostBytes : ℕ
 mostBytes = textBytes rowWidth mostRecords
 
-pub most-bytes : mostBytes ≡ 28090
+pub most-bytes : mostBytes ≡ 50350
 most-bytes = refl
 
 -- ---- a field
@@ -197,7 +197,7 @@ read-records-front w n refusal text words =
         long-records-refused w n refusal (take (textBytes w n + 1) text) words (omega arith) h
         ∙ sym (long-records-refused w n refusal text words l h)
 
--- of a task's text: 28,090 bytes at most, so its first 28,091 tell
+-- of a task's text: 50,350 bytes at most, so its first 50,351 tell
 pub long-refused : (text words : List ℕ) → mostBytes < length text → mostWords ≤ length words
     → readText text words ≡ reading (Refused 15) (zeroed words)
 unfolding readText

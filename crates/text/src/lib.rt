@@ -10,11 +10,11 @@ ghost use Rattle.semantics.specs.Base.{zeroed};
 ghost use Rattle.semantics.specs.Text.{readText};
 
 // Words in a row.
-const ROW: usize = 5;
+pub const ROW: usize = 9;
 
-const MOST_RECORDS: usize = 265;
+pub const MOST_RECORDS: usize = 265;
 
-const MOST_WORDS: usize = ROW * MOST_RECORDS;
+pub const MOST_WORDS: usize = ROW * MOST_RECORDS;
 
 // 2^64 - 1.
 const LARGEST: u64 = 18446744073709551615;

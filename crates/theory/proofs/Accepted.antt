@@ -11,13 +11,24 @@ use lib.ListN.{length, List·getD-eq-default}
 use borrow.Author.Tests.{ltb-true, lt-ltb, leb-true, eqb-true, eq-eqb, not-true}
 use Rattle.semantics.specs.Base.{_if_}
 use Rattle.semantics.specs.Mask.{within, below}
-use Rattle.semantics.specs.Task.{rowWidth, word, facts, members, actions, initial, goal, actionWord, owner, pre, wait}
-use Rattle.semantics.specs.Task.{add, del, headFits, goalRow, actionRow, check}
+use Rattle.semantics.specs.Task.{rowWidth, word, facts, members, actions, initial, goal, actionAt, owner, pre, wait}
+use Rattle.semantics.specs.Task.{add, del, maskIn, zerosFrom, maskFits, headFits, goalRow, actionRow, check}
 use Rattle.semantics.specs.System.{Lawful, system, waits}
 use Rattle.theory.proofs.Lists.{lt-or-ge, not-true-false, and-elim}
 use Rattle.theory.proofs.Refusals.{else-both, if-not-true, upTo-refusal}
 use Rattle.theory.proofs.Attempts.{able-within}
 use Rattle.theory.proofs.Masks.{within-sub, sub-within}
+
+-- word k of row r is a word of 64 bits
+abbrev pub LowWord : List ℕ → ℕ → ℕ → Type 0
+LowWord t r k = word t r k < 2 ^ 64
+
+-- a goal row
+pub record GoalFits (t : List ℕ) (i : ℕ) : Type 0 where
+  pub number : word t (1 + i) 0 ≡ i
+  pub zeros : zerosFrom t (1 + i) 3 ≡ true
+  pub below : below (facts t) (goal t i) ≡ true
+  pub low : LowWord t (1 + i) 1
 
 -- the masks of an action stand below F, and what it waits for is a precondition
 pub record ActionFits (t : List ℕ) (a : ℕ) : Type 0 where
@@ -25,59 +36,94 @@ pub record ActionFits (t : List ℕ) (a : ℕ) : Type 0 where
   pub wait-below : below (facts t) (wait t a) ≡ true
   pub add-below : below (facts t) (add t a) ≡ true
   pub del-below : below (facts t) (del t a) ≡ true
+  -- their low words are words
+  pub pre-low : LowWord t (actionAt t a) 1
+  pub wait-low : LowWord t (actionAt t a) 3
+  pub add-low : LowWord t (actionAt t a) 5
+  pub del-low : LowWord t (actionAt t a) 7
   pub wait-pre : within (wait t a) (pre t a) ≡ true
 
 pub record Accepted (t : List ℕ) : Type 0 where
   pub some-facts : 1 ≤ facts t
-  pub few-facts : facts t ≤ 64
+  pub few-facts : facts t ≤ 128
   pub some-members : 1 ≤ members t
   pub few-members : members t ≤ 8
   pub few-actions : actions t ≤ 256
   pub size : length t ≡ rowWidth * (1 + members t + actions t)
+  pub head-zeros : zerosFrom t 0 5 ≡ true
   pub initial-below : below (facts t) (initial t) ≡ true
-  pub goal-below : (i : ℕ) → i < members t → below (facts t) (goal t i) ≡ true
+  pub initial-low : LowWord t 0 3
+  pub goal-fits : (i : ℕ) → i < members t → GoalFits t i
   pub owner-member : (a : ℕ) → a < actions t → owner t a < members t
   -- past the last action all words are 0
   pub action-fits : (a : ℕ) → ActionFits t a
 
-goal-row : (t : List ℕ) (i : ℕ) → goalRow t i ≡ 0 → below (facts t) (goal t i) ≡ true
+mask-fits : (t : List ℕ) (r k : ℕ) → maskFits t r k ≡ true
+    → (LowWord t r k) × (below (facts t) (maskIn t r k) ≡ true)
+mask-fits t r k h = let (l, b) = and-elim _ _ h in (ltb-true (word t r k) (2 ^ 64) l, b)
+
+goal-row : (t : List ℕ) (i : ℕ) → goalRow t i ≡ 0 → GoalFits t i
 unfolding goalRow
 goal-row t i h =
-    let shape =
-    eqb (word t (1 + i) 0) i && eqb (word t (1 + i) 2) 0 && eqb (word t (1 + i) 3) 0 && eqb (word t (1 + i) 4) 0 in
-    if-not-true 3 _ (else-both (3 if not shape) _ h .1)
+    let (s, m) = else-both (3 if not (eqb (word t (1 + i) 0) i && zerosFrom t (1 + i) 3)) _ h in
+    let (e, z) = and-elim _ _ (if-not-true 2 _ s) in
+    let (l, b) = mask-fits t (1 + i) 1 (if-not-true 3 _ m) in
+    record { number = eqb-true _ _ e; zeros = z; below = b; low = l }
 
 action-row : (t : List ℕ) (a : ℕ) → actionRow t a ≡ 0 → (owner t a < members t) × ActionFits t a
 unfolding actionRow
 action-row t a h =
     let (o, h₁) = else-both _ _ h in
     let (m, w) = else-both _ _ h₁ in
-    let (x, d) = and-elim _ _ (if-not-true 3 _ m) in
-    let (y, c) = and-elim _ _ x in
-    let (p, q) = and-elim _ _ y in (
+    let (x, d) = and-elim _ (maskFits t (actionAt t a) 7) (if-not-true 3 _ m) in
+    let (y, c) = and-elim _ (maskFits t (actionAt t a) 5) x in
+    let (p, q) = and-elim (maskFits t (actionAt t a) 1) (maskFits t (actionAt t a) 3) y in
+    let (pl, pb) = mask-fits t (actionAt t a) 1 p in
+    let (wl, wb) = mask-fits t (actionAt t a) 3 q in
+    let (al, ab) = mask-fits t (actionAt t a) 5 c in
+    let (dl, db) = mask-fits t (actionAt t a) 7 d in (
       ltb-true _ _ (if-not-true 4 _ o),
-      record { pre-below = p; wait-below = q; add-below = c; del-below = d; wait-pre = if-not-true 5 _ w },
+      record {
+        pre-below = pb;
+        wait-below = wb;
+        add-below = ab;
+        del-below = db;
+        pre-low = pl;
+        wait-low = wl;
+        add-low = al;
+        del-low = dl;
+        wait-pre = if-not-true 5 _ w;
+      },
     )
 
-past-zero : (t : List ℕ) → length t ≡ rowWidth * (1 + members t + actions t) → (a k : ℕ) → actions t ≤ a
-    → actionWord t a k ≡ 0
-past-zero t e a k h = List·getD-eq-default t 0 (omega arith)
+module _ (t : List ℕ) (size : length t ≡ rowWidth * (1 + members t + actions t)) (a : ℕ) (past : actions t ≤ a) where
+  past-zero : (k : ℕ) → word t (actionAt t a) k ≡ 0
+  past-zero k = List·getD-eq-default t 0 (omega arith)
 
-zero-below : (F x : ℕ) → x ≡ 0 → below F x ≡ true
-unfolding below
-zero-below F x e = rw e (lt-ltb 0 (2 ^ F) (pow-pos F))
+  past-mask : (k : ℕ) → maskIn t (actionAt t a) k ≡ 0
+  past-mask k = rw (past-zero k, past-zero (k + 1))
 
-past-fits : (t : List ℕ) → length t ≡ rowWidth * (1 + members t + actions t) → (a : ℕ) → actions t ≤ a → ActionFits t a
-unfolding within
-past-fits t e a h =
-    let zero-word : (k : ℕ) → actionWord t a k ≡ 0 = λ k. past-zero t e a k h in
-    record {
-      pre-below = zero-below (facts t) (pre t a) (zero-word 1);
-      wait-below = zero-below (facts t) (wait t a) (zero-word 2);
-      add-below = zero-below (facts t) (add t a) (zero-word 3);
-      del-below = zero-below (facts t) (del t a) (zero-word 4);
-      wait-pre = rw (zero-word 2);
-    }
+  past-low : (k : ℕ) → LowWord t (actionAt t a) k
+  past-low k = rw (past-zero k) (pow-pos 64)
+
+  zero-below : (x : ℕ) → x ≡ 0 → below (facts t) x ≡ true
+  unfolding below
+  zero-below x e = rw e (lt-ltb 0 (2 ^ facts t) (pow-pos (facts t)))
+
+  past-fits : ActionFits t a
+  unfolding within
+  past-fits =
+      record {
+        pre-below = zero-below (pre t a) (past-mask 1);
+        wait-below = zero-below (wait t a) (past-mask 3);
+        add-below = zero-below (add t a) (past-mask 5);
+        del-below = zero-below (del t a) (past-mask 7);
+        pre-low = past-low 1;
+        wait-low = past-low 3;
+        add-low = past-low 5;
+        del-low = past-low 7;
+        wait-pre = rw (past-mask 3);
+      }
 
 pub accepted : (t : List ℕ) → check t ≡ 0 → Accepted t
 unfolding check headFits
@@ -87,12 +133,13 @@ accepted t h =
     let (r₃, h₃) = else-both _ _ h₂ in
     let (r₄, h₄) = else-both _ _ h₃ in
     let (goals, rows) = else-both _ _ h₄ in
-    let (x, last) = and-elim _ (eqb (word t 0 4) 0) (if-not-true 1 _ r₂) in
+    let (x, last) = and-elim _ (zerosFrom t 0 5) (if-not-true 1 _ r₂) in
     let (y, few) = and-elim _ _ x in
     let (f, m) = and-elim _ _ y in
     let (f₁, f₂) = and-elim _ _ f in
     let (m₁, m₂) = and-elim _ _ m in
     let size = eqb-true _ _ (if-not-true 0 _ r₃) in
+    let (low, below) = mask-fits t 0 3 (if-not-true 3 _ r₄) in
     record {
       some-facts = leb-true _ _ f₁;
       few-facts = leb-true _ _ f₂;
@@ -100,8 +147,10 @@ accepted t h =
       few-members = leb-true _ _ m₂;
       few-actions = leb-true _ _ few;
       size = size;
-      initial-below = if-not-true 3 _ r₄;
-      goal-below = λ i l. goal-row t i (upTo-refusal (goalRow t) _ goals i l);
+      head-zeros = last;
+      initial-below = below;
+      initial-low = low;
+      goal-fits = λ i l. goal-row t i (upTo-refusal (goalRow t) _ goals i l);
       owner-member = λ a l. action-row t a (upTo-refusal (actionRow t) _ rows a l) .0;
       action-fits =
           λ a. ⊎-elim (λ l. action-row t a (upTo-refusal (actionRow t) _ rows a l) .1) (past-fits t size a)

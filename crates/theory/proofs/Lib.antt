@@ -29,6 +29,7 @@ pub mod Rows
 pub mod Sequence
 pub mod SoloSearch
 pub mod Walks
+pub mod Words
 pub mod Sound
 pub mod Tickets
 pub mod Verdict

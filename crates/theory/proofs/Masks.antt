@@ -1,17 +1,22 @@
 -- Masks against sets of facts: a mask is the set of the facts that stand in it.
-use mathlib.Core.Path.{_≡_, refl, sym, ap, _∙_}
+use mathlib.Core.Path.{_≡_, refl, sym, ap, ap₂, _∙_}
+use mathlib.Core.Logic.{⊎-elim}
+use mathlib.Core.List.{[], _∷_}
 use mathlib.Core.Bool.{Bool, true, false, not, _&&_, _||_, false≢true}
-use Prim.Native.Nat.{ℕ, zero, suc, _-_, _/_, _%_, _^_, _≤_, _<_, zero-le}
+use Prim.Native.Nat.{ℕ, zero, suc, _+_, _-_, _*_, _/_, _%_, _^_, _≤_, _<_, zero-le}
 use native.Mathlib.Nat.{pow-suc, div-one, zero-div, div-eq-of-lt, div-div-eq-div-mul, sub-le, lt-of-lt-of-le}
-use native.Mathlib.Nat.{lt-of-le-of-lt, pow-succ'}
+use native.Mathlib.Nat.{lt-of-le-of-lt, pow-succ', mul-assoc}
 use native.Mathlib.Omega.{arith}
+use lib.ListN.{getD}
 use lib.Arith.{bin-ind}
 use lib.Pow.{pow-mono}
-use lib.Bits.{bitAnd, bitOr, and-step, or-step, and-le-l, or-lt}
+use lib.Bits.{bitAnd, bitOr, and-step, or-step, and-le-l, or-lt, shifted-half, or-shifted}
 use borrow.Author.Tests.{ltb-true, lt-ltb, eqb-true, eq-eqb}
 use Rattle.semantics.specs.Mask.{has, within, after, below}
+use Rattle.semantics.specs.Words.{ofWords}
 use Rattle.semantics.specs.Model.{_⊆_}
 use Rattle.semantics.specs.Demands.{factsOf}
+use Rattle.theory.proofs.Lists.{lt-or-ge}
 
 -- ---- one digit, then the next
 
@@ -159,3 +164,55 @@ after-below F s add del hs ha =
     lt-ltb (after s add del) (2 ^ F)
     (or-lt F (s - bitAnd s del) add (lt-of-le-of-lt (sub-le s (bitAnd s del)) (ltb-true s (2 ^ F) hs))
     (ltb-true add (2 ^ F) ha))
+
+-- ---- masks in two words
+
+even-none : (x : ℕ) → has 0 (x * 2) ≡ false
+even-none x = even-has (x * 2) (omega arith)
+
+-- a number of so many digits more has its facts so much higher
+shifted-low : (k f a : ℕ) → f < k → has f (a * 2 ^ k) ≡ false
+shifted-low zero f a h = absurd (omega arith)
+shifted-low (suc k) zero a h =
+    let e : a * 2 ^ suc k ≡ a * 2 ^ k * 2 = ap (λ (x : ℕ). a * x) (pow-suc 2 k) ∙ sym (mul-assoc a (2 ^ k) 2) in
+    ap (has 0) e ∙ even-none (a * 2 ^ k)
+shifted-low (suc k) (suc f) a h =
+    has-suc f (a * 2 ^ suc k) ∙ ap (has f) (shifted-half a k) ∙ shifted-low k f a (omega arith)
+
+shifted-high : (k f a : ℕ) → has (k + f) (a * 2 ^ k) ≡ has f a
+shifted-high zero f a =
+    let e : a * 2 ^ 0 ≡ a = omega arith in
+    let z : 0 + f ≡ f = omega arith in
+    ap₂ has z e
+shifted-high (suc k) f a =
+    let z : suc k + f ≡ suc (k + f) = omega arith in
+    ap (λ (n : ℕ). has n (a * 2 ^ suc k)) z ∙ has-suc (k + f) (a * 2 ^ suc k) ∙ ap (has (k + f)) (shifted-half a k)
+    ∙ shifted-high k f a
+
+-- fact f stands in a mask where bit f mod 64 of its word f / 64 is set
+pub word-has : (f low high : ℕ) → f < 128 → low < 2 ^ 64
+    → has f (ofWords low high) ≡ has (f % 64) (getD (low ∷ high ∷ []) (f / 64) 0)
+unfolding below
+word-has f low high few small = ⊎-elim lower upper (lt-or-ge f 64)
+  where
+    or-no : (b : Bool) → (b || false) ≡ b
+    or-no true = refl
+    or-no false = refl
+
+    both : has f (ofWords low high) ≡ (has f (high * 2 ^ 64) || has f low)
+    both = ap (has f) (sym (or-shifted high 64 low small)) ∙ or-has f (high * 2 ^ 64) low
+
+    lower : f < 64 → has f (ofWords low high) ≡ has (f % 64) (getD (low ∷ high ∷ []) (f / 64) 0)
+    lower h =
+        let d : f / 64 ≡ 0 = omega arith in
+        let m : f % 64 ≡ f = omega arith in
+        both ∙ ap (λ (b : Bool). b || has f low) (shifted-low 64 f high h) ∙ rw (d, m)
+
+    upper : 64 ≤ f → has f (ofWords low high) ≡ has (f % 64) (getD (low ∷ high ∷ []) (f / 64) 0)
+    upper h =
+        let d : f / 64 ≡ 1 = omega arith in
+        let e : f ≡ 64 + f % 64 = omega arith in
+        let none = below-has 64 low (lt-ltb low (2 ^ 64) small) f h in
+        both ∙ ap (λ (b : Bool). has f (high * 2 ^ 64) || b) none
+        ∙ or-no (has f (high * 2 ^ 64))
+        ∙ ap (λ (n : ℕ). has n (high * 2 ^ 64)) e ∙ shifted-high 64 (f % 64) high ∙ rw d

@@ -7,12 +7,12 @@ use mathlib.Core.List.{List, [], _∷_, _++_, map}
 use mathlib.Core.List.{List·Memᴰ}
 use Prim.Native.Nat.{ℕ, _-_, _≤_, _<_}
 use native.Mathlib.Omega.{arith}
-use lib.ListN.{length, getD, take, replicate, length-map, List·getD-append}
-use lib.Seq.{take-append-seam}
+use lib.ListN.{length, getD, replicate, length-map, List·getD-append}
 use lib.Dec.{eqb}
 use borrow.Author.Tests.{lt-ltb, le-ltb}
 use Rattle.semantics.specs.Base.{_if_, keep, refused, gives, padded}
 use Rattle.semantics.specs.Mask.{after}
+use Rattle.semantics.specs.Words.{statesIn, firstStates, inWords, holding}
 use Rattle.semantics.specs.Task as Task
 use Rattle.semantics.specs.Task.{check}
 use Rattle.semantics.specs.System.{Lawful, system, waits, Live}
@@ -25,6 +25,7 @@ use Rattle.semantics.specs.Demands.{Breadth, SearchedRows, SoloSearchAgrees}
 use Rattle.theory.proofs.Lists.{getD-map, lt-or-ge, mem-getD, test-ext, filter-mem, mem-filter}
 use Rattle.theory.proofs.Refusals.{else-both, refused-gives, gives-inj}
 use Rattle.theory.proofs.Masks.{sub-within}
+use Rattle.theory.proofs.Words.{first-states}
 use Rattle.theory.proofs.Accepted.{accepted-lawful}
 use Rattle.theory.proofs.Agrees.Step.{facts-after, same-facts}
 use Rattle.theory.proofs.Agrees.Solo.{leads-iff}
@@ -94,16 +95,20 @@ if-one true = (λ h. refl, λ h. refl)
 if-one false = (λ h. absurd (omega arith), λ h. absurd (false≢true h))
 
 module _ (t : List ℕ) (i : ℕ) (table marks : List ℕ)
-    (accepts : searchRefusal t i (length table) (length marks) ≡ 0) where
+    (accepts : searchRefusal t i (statesIn (length table)) (length marks) ≡ 0) where
+  -- the rows that the table takes
+  abbrev room : ℕ
+  room = statesIn (length table)
+
   abbrev rows : List ℕ
-  rows = copies (system t) i (length table)
+  rows = copies (system t) i room
 
   lawful : Lawful (system t) (waits t)
   lawful = accepted-lawful t (else-both (check t) _ accepts .0)
 
-  search-full : length table < length rows → soloSearch t i table marks .answer ≡ refused 9
+  search-full : room < length rows → soloSearch t i table marks .answer ≡ refused 9
   unfolding soloSearch
-  search-full l = rw (accepts, lt-ltb (length table) (length rows) l)
+  search-full l = rw (accepts, lt-ltb room (length rows) l)
 
   abbrev told : Searched
   told =
@@ -117,29 +122,29 @@ module _ (t : List ℕ) (i : ℕ) (table marks : List ℕ)
   found =
       record {
         answer = gives told;
-        table = padded (length table) rows;
+        table = holding (length table) rows;
         marks = padded (length marks) (marksOf (system t) i rows);
       }
 
-  search-found : length rows ≤ length table → soloSearch t i table marks ≡ found
+  search-found : length rows ≤ room → soloSearch t i table marks ≡ found
   unfolding soloSearch
-  search-found b = rw (accepts, le-ltb (length table) (length rows) b)
+  search-found b = rw (accepts, le-ltb room (length rows) b)
 
   -- what is listed is just what can be reached
-  found-reachable : length rows ≤ length table → (s : ℕ) → List·Memᴰ s rows ↔ Reachable t i s
+  found-reachable : length rows ≤ room → (s : ℕ) → List·Memᴰ s rows ↔ Reachable t i s
   found-reachable b s = (
-    λ m. reachable-iff t i s .0 (copies-reachable (system t) (waits t) lawful i (length table) s m),
-    λ r. reachable-copies (system t) (waits t) lawful i (length table) b s (reachable-iff t i s .1 r),
+    λ m. reachable-iff t i s .0 (copies-reachable (system t) (waits t) lawful i room s m),
+    λ r. reachable-copies (system t) (waits t) lawful i room b s (reachable-iff t i s .1 r),
   )
 
-  found-live : length rows ≤ length table → (s : ℕ) → List·Memᴰ s rows
+  found-live : length rows ≤ room → (s : ℕ) → List·Memᴰ s rows
       → (mem eqb s (liveOf (system t) i rows) ≡ true) ↔ Completable t i s
   found-live b s m = (
     λ h. completable-iff t i s .0 (live-sound (system t) (waits t) lawful i rows s h),
-    λ c. copies-live (system t) (waits t) lawful i (length table) b s m (completable-iff t i s .1 c),
+    λ c. copies-live (system t) (waits t) lawful i room b s m (completable-iff t i s .1 c),
   )
 
-  found-mark : length rows ≤ length table → (k : ℕ) → k < length rows
+  found-mark : length rows ≤ room → (k : ℕ) → k < length rows
       → (getD (padded (length marks) (marksOf (system t) i rows)) k 0 ≡ 1) ↔ Completable t i (getD rows k 0)
   unfolding marksOf
   found-mark b k l =
@@ -154,48 +159,48 @@ module _ (t : List ℕ) (i : ℕ) (table marks : List ℕ)
       (Iff·trans (if-one (mem eqb s live)) (found-live b s (mem-getD rows k 0 l)))
 
   rows-distinct : Distinct 0 rows
-  rows-distinct = nodup-index 0 (copies-nodup (system t) (waits t) lawful i (length table))
+  rows-distinct = nodup-index 0 (copies-nodup (system t) (waits t) lawful i room)
 
   rows-reachable : (s : ℕ) → List·Memᴰ s rows → Reachable t i s
-  rows-reachable s m = reachable-iff t i s .0 (copies-reachable (system t) (waits t) lawful i (length table) s m)
+  rows-reachable s m = reachable-iff t i s .0 (copies-reachable (system t) (waits t) lawful i room s m)
 
   abbrev startLive : Bool
   startLive = mem eqb (system t .init) (liveOf (system t) i rows)
 
-  start-live : length rows ≤ length table → (startLive ≡ true) ↔ Solvable t i
+  start-live : length rows ≤ room → (startLive ≡ true) ↔ Solvable t i
   start-live b =
       let first =
       found-live b (system t .init)
-      (reachable-copies (system t) (waits t) lawful i (length table) b (system t .init) (here refl)) in
+      (reachable-copies (system t) (waits t) lawful i room b (system t .init) (here refl)) in
       (λ h. let c = first .0 h in (c .0, (c .1, c .2, c .3)), λ p. first .1 (p .0, p .1 .0, p .1 .1, p .1 .2))
 
-  rows-listed : length rows ≤ length table → Lists 0 (Reachable t i) rows
+  rows-listed : length rows ≤ room → Lists 0 (Reachable t i) rows
   rows-listed b = record { distinct = rows-distinct; just = found-reachable b }
 
-  rows-breadth : length rows ≤ length table → Breadth eqb (soloNext (system t) i) (Task.initial t) rows
+  rows-breadth : length rows ≤ room → Breadth eqb (soloNext (system t) i) (Task.initial t) rows
   unfolding copies
-  rows-breadth b = listing-breadth eqb (soloNext (system t) i) (Task.initial t) (Task.initial t) (length table) b
+  rows-breadth b = listing-breadth eqb (soloNext (system t) i) (Task.initial t) (Task.initial t) room b
 
   -- different copies that can be reached are no more than the rows, where these fit
-  most : length rows ≤ length table → (xs : List ℕ) → Distinct 0 xs → ((x : ℕ) → List·Memᴰ x xs → Reachable t i x)
+  most : length rows ≤ room → (xs : List ℕ) → Distinct 0 xs → ((x : ℕ) → List·Memᴰ x xs → Reachable t i x)
       → length xs ≤ length rows
   most b xs distinct reach = pigeonhole rows (index-nodup 0 xs distinct) (λ x m. found-reachable b x .1 (reach x m))
 
-  exceeds : Exceed 0 (Reachable t i) (length table) → length table < length rows
+  exceeds : Exceed 0 (Reachable t i) room → room < length rows
   exceeds x =
       ⊎-elim (λ h. h)
       (λ b. let p = most b (x .some) (x .distinct) (x .each) in omega (arith, x .more))
-      (lt-or-ge (length table) (length rows))
+      (lt-or-ge room (length rows))
 
   -- the live ones of them, and how many they are
   abbrev liveRows : List ℕ
   liveRows = keep (λ s. mem eqb s (liveOf (system t) i rows)) rows
 
-  live-listed : length rows ≤ length table → Lists 0 (λ s. Reachable t i s × Completable t i s) liveRows
+  live-listed : length rows ≤ room → Lists 0 (λ s. Reachable t i s × Completable t i s) liveRows
   live-listed b =
       let live : ℕ → Bool = λ s. mem eqb s (liveOf (system t) i rows) in
       record {
-        distinct = nodup-index 0 (nodup-filter live (copies-nodup (system t) (waits t) lawful i (length table)));
+        distinct = nodup-index 0 (nodup-filter live (copies-nodup (system t) (waits t) lawful i room));
         just = λ s. (
           λ m. let r = filter-mem live rows m in (found-reachable b s .0 (r .0), found-live b s (r .0) .0 (r .1)),
           λ p. let m = found-reachable b s .1 (p .0) in mem-filter live m (found-live b s m .1 (p .1)),
@@ -206,24 +211,24 @@ module _ (t : List ℕ) (i : ℕ) (table marks : List ℕ)
   unfolding marksOf
   live-many = sym (ones-map (λ s. mem eqb s (liveOf (system t) i rows)) rows)
 
-  answered : length rows ≤ length table → soloSearch t i table marks .answer ≡ gives told
+  answered : length rows ≤ room → soloSearch t i table marks .answer ≡ gives told
   answered b = ap (λ (r : SoloSearch). r .answer) (search-found b)
 
-  full-exceeds : soloSearch t i table marks .answer ≡ refused 9 → Exceed 0 (Reachable t i) (length table)
+  full-exceeds : soloSearch t i table marks .answer ≡ refused 9 → Exceed 0 (Reachable t i) room
   full-exceeds e =
       ⊎-elim
       (λ l. record { some = rows; distinct = rows-distinct; each = rows-reachable; more = l })
       (λ b. absurd (refused-gives (sym e ∙ answered b)))
-      (lt-or-ge (length table) (length rows))
+      (lt-or-ge room (length rows))
 
   -- an answer is given only where the rows fit
-  answer-fits : (c : Searched) → soloSearch t i table marks .answer ≡ gives c → length rows ≤ length table
+  answer-fits : (c : Searched) → soloSearch t i table marks .answer ≡ gives c → length rows ≤ room
   answer-fits c e =
-      ⊎-elim (λ l. absurd (refused-gives (sym (search-full l) ∙ e))) (λ b. b) (lt-or-ge (length table) (length rows))
+      ⊎-elim (λ l. absurd (refused-gives (sym (search-full l) ∙ e))) (λ b. b) (lt-or-ge room (length rows))
 
   abbrev Counted : Searched → Type 0
   Counted c =
-      (c .count ≤ length table)
+      (c .count ≤ room)
       × ((xs : List ℕ) × Lists 0 (Reachable t i) xs × (length xs ≡ c .count))
       × ((c .live ≡ true) ↔ Solvable t i)
       × ((xs : List ℕ) × Lists 0 (λ s. Reachable t i s × Completable t i s) xs × (length xs ≡ c .marked))
@@ -237,9 +242,9 @@ module _ (t : List ℕ) (i : ℕ) (table marks : List ℕ)
   counted-answer : (c : Searched) → Counted c → soloSearch t i table marks .answer ≡ gives c
   counted-answer c (few, (xs, l, n), live, (ys, h, k)) =
       let back : length rows ≤ length xs =
-      pigeonhole xs (copies-nodup (system t) (waits t) lawful i (length table))
+      pigeonhole xs (copies-nodup (system t) (waits t) lawful i room)
       (λ x m. l .just x .1 (rows-reachable x m)) in
-      let b : length rows ≤ length table = omega arith in
+      let b : length rows ≤ room = omega arith in
       let forth = most b xs (l .distinct) (λ x m. l .just x .0 m) in
       let count : length rows ≡ c .count = omega arith in
       let same : startLive ≡ c .live =
@@ -253,20 +258,22 @@ module _ (t : List ℕ) (i : ℕ) (table marks : List ℕ)
       answered b ∙ (λ j. gives (record { count = count j; live = same j; marked = marked j }))
 
   answer-rows : (c : Searched) → soloSearch t i table marks .answer ≡ gives c
-      → SearchedRows t i (take (c .count) (soloSearch t i table marks .table)) (soloSearch t i table marks .marks)
+      → SearchedRows t i (firstStates (soloSearch t i table marks .table) (c .count))
+      (soloSearch t i table marks .marks)
   answer-rows c e =
       let b = answer-fits c e in
-      let q = take-append-seam rows (replicate (length table - length rows) 0) in
+      let q = first-states rows (replicate (length table - length (inWords rows)) 0) in
       let r : SearchedRows t i rows (padded (length marks) (marksOf (system t) i rows)) =
       record { listed = rows-listed b; breadth = rows-breadth b; marked = found-mark b } in
-      subst (λ (x : Searched). SearchedRows t i (take (x .count) (soloSearch t i table marks .table))
+      subst (λ (x : Searched). SearchedRows t i (firstStates (soloSearch t i table marks .table) (x .count))
       (soloSearch t i table marks .marks))
       (gives-inj (sym (answered b) ∙ e))
-      (subst (λ (x : SoloSearch). SearchedRows t i (take (length rows) (x .table)) (x .marks)) (sym (search-found b))
+      (subst (λ (x : SoloSearch). SearchedRows t i (firstStates (x .table) (length rows)) (x .marks))
+      (sym (search-found b))
       (subst (λ (xs : List ℕ). SearchedRows t i xs (padded (length marks) (marksOf (system t) i rows))) (sym q) r))
 
 pub solo-search-agrees : (t : List ℕ) (i : ℕ) (table marks : List ℕ)
-    → searchRefusal t i (length table) (length marks) ≡ 0
+    → searchRefusal t i (statesIn (length table)) (length marks) ≡ 0
     → SoloSearchAgrees t i table marks
 solo-search-agrees t i table marks accepts =
     record {

@@ -1,82 +1,96 @@
 // Runs the paper's worked laws through the operations and prints what they answer, one line an
-// answer.
+// answer; then L13, which is L1 with each fact higher by 61, so that facts 0 to 2 stand in the low
+// words and 3 and 4 in the high ones.
 ghost use Prim.Native.Nat.{_≤_};
 ghost use lib.ListN.{length};
 use text::Scan;
 
-// Fields of a record, the most records, and their words.
-const FIELDS: usize = 5;
-
-const RECORDS: usize = 265;
-
-const WORDS: usize = FIELDS * RECORDS;
+// The words of a table with room enough for each of these laws.
+const PLENTY: usize = 96;
 
 // ---- the laws
 
 // The words of a text at the front of the slice, and their number.
-fn words_of(text: &[u8], words: &mut [u64; WORDS]) -> usize
+fn words_of(text: &[u8], words: &mut [u64; text::MOST_WORDS]) -> usize
     ensures { λ r. ⌜ r ≤ length (now (words .exit)) ⌝ }
 {
-    let scan = text::scan_text(text, words, FIELDS, RECORDS);
+    let scan = text::scan_text(text, words, text::ROW, text::MOST_RECORDS);
     match scan {
-        Scan::Records(n) => FIELDS * n,
+        Scan::Records(n) => text::ROW * n,
         Scan::Bad => 0,
     }
 }
 
 // L1, and L1 changed; L9 and L10 are L1 with tables of their own.
-fn like_l1(number: u64, words: &mut [u64; WORDS]) -> usize
+fn like_l1(number: u64, words: &mut [u64; text::MOST_WORDS]) -> usize
     ensures { λ r. ⌜ r ≤ length (now (words .exit)) ⌝ }
 {
     match number {
         2 => words_of(
-            b"5,2,4,1,0\r\n0,5,0,0,0\r\n1,17,0,0,0\r\n\
-              0,1,0,2,1\r\n0,2,0,5,2\r\n1,1,0,8,1\r\n1,8,0,17,8\r\n",
+            b"5,2,4,1,0,0,0,0,0\r\n0,5,0,0,0,0,0,0,0\r\n1,17,0,0,0,0,0,0,0\r\n\
+              0,1,0,0,0,2,0,1,0\r\n0,2,0,0,0,5,0,2,0\r\n1,1,0,0,0,8,0,1,0\r\n\
+              1,8,0,0,0,17,0,8,0\r\n",
             words,
         ),
         3 => words_of(
-            b"5,2,4,1,0\r\n0,4,0,0,0\r\n1,16,0,0,0\r\n\
-              0,1,1,2,1\r\n0,2,0,5,2\r\n1,1,1,8,1\r\n1,8,0,17,8\r\n",
+            b"5,2,4,1,0,0,0,0,0\r\n0,4,0,0,0,0,0,0,0\r\n1,16,0,0,0,0,0,0,0\r\n\
+              0,1,0,1,0,2,0,1,0\r\n0,2,0,0,0,5,0,2,0\r\n1,1,0,1,0,8,0,1,0\r\n\
+              1,8,0,0,0,17,0,8,0\r\n",
             words,
         ),
         4 => words_of(
-            b"5,2,4,1,0\r\n0,5,0,0,0\r\n1,2,0,0,0\r\n\
-              0,1,1,2,1\r\n0,2,0,5,2\r\n1,1,1,8,1\r\n1,8,0,17,8\r\n",
+            b"5,2,4,1,0,0,0,0,0\r\n0,5,0,0,0,0,0,0,0\r\n1,2,0,0,0,0,0,0,0\r\n\
+              0,1,0,1,0,2,0,1,0\r\n0,2,0,0,0,5,0,2,0\r\n1,1,0,1,0,8,0,1,0\r\n\
+              1,8,0,0,0,17,0,8,0\r\n",
             words,
         ),
         11 => words_of(
-            b"5,2,4,1,0\r\n0,32,0,0,0\r\n1,17,0,0,0\r\n\
-              0,1,1,2,1\r\n0,2,0,5,2\r\n1,1,1,8,1\r\n1,8,0,17,8\r\n",
+            b"5,2,4,1,0,0,0,0,0\r\n0,32,0,0,0,0,0,0,0\r\n1,17,0,0,0,0,0,0,0\r\n\
+              0,1,0,1,0,2,0,1,0\r\n0,2,0,0,0,5,0,2,0\r\n1,1,0,1,0,8,0,1,0\r\n\
+              1,8,0,0,0,17,0,8,0\r\n",
             words,
         ),
         12 => words_of(
-            b"5,2,4,1,0\r\n0,5,0,0,0\r\n1,17,0,0,0\r\n\
-              0,1,1,2,1\r\n0,2,0,5,2\r\n1,1,1,8,1\r\n0,1,2,0,0\r\n",
+            b"5,2,4,1,0,0,0,0,0\r\n0,5,0,0,0,0,0,0,0\r\n1,17,0,0,0,0,0,0,0\r\n\
+              0,1,0,1,0,2,0,1,0\r\n0,2,0,0,0,5,0,2,0\r\n1,1,0,1,0,8,0,1,0\r\n\
+              0,1,0,2,0,0,0,0,0\r\n",
             words,
         ),
         _ => words_of(
-            b"5,2,4,1,0\r\n0,5,0,0,0\r\n1,17,0,0,0\r\n\
-              0,1,1,2,1\r\n0,2,0,5,2\r\n1,1,1,8,1\r\n1,8,0,17,8\r\n",
+            b"5,2,4,1,0,0,0,0,0\r\n0,5,0,0,0,0,0,0,0\r\n1,17,0,0,0,0,0,0,0\r\n\
+              0,1,0,1,0,2,0,1,0\r\n0,2,0,0,0,5,0,2,0\r\n1,1,0,1,0,8,0,1,0\r\n\
+              1,8,0,0,0,17,0,8,0\r\n",
             words,
         ),
     }
 }
 
 // The words of the law with this number.
-fn law(number: u64, words: &mut [u64; WORDS]) -> usize
+fn law(number: u64, words: &mut [u64; text::MOST_WORDS]) -> usize
     ensures { λ r. ⌜ r ≤ length (now (words .exit)) ⌝ }
 {
     match number {
-        5 => words_of(b"1,1,0,1,0\r\n0,1,0,0,0\r\n", words),
-        6 => words_of(b"1,1,0,0,0\r\n0,1,0,0,0\r\n", words),
+        5 => words_of(b"1,1,0,1,0,0,0,0,0\r\n0,1,0,0,0,0,0,0,0\r\n", words),
+        6 => words_of(b"1,1,0,0,0,0,0,0,0\r\n0,1,0,0,0,0,0,0,0\r\n", words),
         7 => words_of(
-            b"2,2,2,0,0\r\n0,1,0,0,0\r\n1,2,0,0,0\r\n\
-              0,0,0,1,0\r\n1,0,0,2,1\r\n",
+            b"2,2,2,0,0,0,0,0,0\r\n0,1,0,0,0,0,0,0,0\r\n1,2,0,0,0,0,0,0,0\r\n\
+              0,0,0,0,0,1,0,0,0\r\n1,0,0,0,0,2,0,1,0\r\n",
             words,
         ),
         8 => words_of(
-            b"2,2,2,1,0\r\n0,1,0,0,0\r\n1,1,0,0,0\r\n\
-              0,0,0,2,1\r\n1,1,0,1,0\r\n",
+            b"2,2,2,1,0,0,0,0,0\r\n0,1,0,0,0,0,0,0,0\r\n1,1,0,0,0,0,0,0,0\r\n\
+              0,0,0,0,0,2,0,1,0\r\n1,1,0,0,0,1,0,0,0\r\n",
+            words,
+        ),
+        13 => words_of(
+            b"66,2,4,2305843009213693952,0,0,0,0,0\r\n\
+              0,11529215046068469760,0,0,0,0,0,0,0\r\n\
+              1,2305843009213693952,2,0,0,0,0,0,0\r\n\
+              0,2305843009213693952,0,2305843009213693952,0,\
+              4611686018427387904,0,2305843009213693952,0\r\n\
+              0,4611686018427387904,0,0,0,11529215046068469760,0,4611686018427387904,0\r\n\
+              1,2305843009213693952,0,2305843009213693952,0,0,1,2305843009213693952,0\r\n\
+              1,0,1,0,0,2305843009213693952,2,0,1\r\n",
             words,
         ),
         _ => like_l1(number, words),
@@ -87,11 +101,11 @@ fn law(number: u64, words: &mut [u64; WORDS]) -> usize
 
 fn steps_of_l1(t: &[u64]) {
     worked_show::show_check(1, t);
-    worked_show::show_step(1, t, 0, 1);
-    worked_show::show_step(1, t, 0, 0);
-    worked_show::show_step(1, t, 1, 1);
-    worked_show::show_step(1, t, 4, 1);
-    worked_show::show_step(1, t, 0, 32);
+    worked_show::show_step(1, t, 0, 1, 0);
+    worked_show::show_step(1, t, 0, 0, 0);
+    worked_show::show_step(1, t, 1, 1, 0);
+    worked_show::show_step(1, t, 4, 1, 0);
+    worked_show::show_step(1, t, 0, 32, 0);
 }
 
 fn plans_of_l1(t: &[u64]) {
@@ -103,10 +117,10 @@ fn plans_of_l1(t: &[u64]) {
 }
 
 fn copies_of_l1(t: &[u64]) {
-    let mut table = [7; 4];
+    let mut table = [7; 8];
     let mut marks = [7; 5];
     worked_show::show_search(1, t, 0, &mut table, &mut marks);
-    let mut short = [7; 3];
+    let mut short = [7; 7];
     worked_show::show_search(1, t, 0, &mut short, &mut marks);
 }
 
@@ -153,9 +167,21 @@ fn on_l7(t: &[u64]) {
 }
 
 fn copies_of(law: u64, t: &[u64], member: u8) {
-    let mut table = [7; 4];
+    let mut table = [7; 8];
     let mut marks = [7; 4];
     worked_show::show_search(law, t, member, &mut table, &mut marks);
+}
+
+// Facts 61 to 65 are those that L1 calls 0 to 4.
+fn on_l13(t: &[u64]) {
+    worked_show::show_check(13, t);
+    worked_show::show_step(13, t, 2, 2305843009213693952, 0);
+    worked_show::show_step(13, t, 3, 0, 1);
+    worked_show::show_step(13, t, 3, 1, 0);
+    worked_show::show_step(13, t, 3, 0, 4);
+    copies_of(13, t, 1);
+    worked_show::show_pick(13, t, &[0, 1, 2, 3], &[2, 4], 1);
+    worked_show::show_runs(13, t, &[0, 1, 2, 3], &[2, 4], &[0, 0, 1, 1]);
 }
 
 // What is asked of a law below the verdict.
@@ -169,35 +195,36 @@ fn show_operations(law: u64, t: &[u64]) {
         6 => worked_show::show_solo(6, t, 0, &[]),
         7 => on_l7(t),
         8 => copies_of(8, t, 0),
+        13 => on_l13(t),
         _ => worked_show::show_check(law, t),
     }
 }
 
 // L1 at the edge of its configuration table.
 fn on_l9(t: &[u64]) {
-    let mut local = [7; 48];
-    let mut short = [7; 35];
-    let mut enough = [7; 36];
-    worked_show::asked(9, b", 35 words,");
+    let mut local = [7; PLENTY];
+    let mut short = [7; 71];
+    let mut enough = [7; 72];
+    worked_show::asked(9, b", 71 words,");
     worked_show::show_verdict(t, &mut local, &mut short);
-    worked_show::asked(9, b", 36 words,");
+    worked_show::asked(9, b", 72 words,");
     worked_show::show_verdict(t, &mut local, &mut enough);
 }
 
 // L1 at the edge of its local table.
 fn on_l10(t: &[u64]) {
-    let mut confs = [7; 48];
-    let mut short = [7; 7];
-    let mut enough = [7; 8];
-    worked_show::asked(10, b", 7 words,");
+    let mut confs = [7; PLENTY];
+    let mut short = [7; 15];
+    let mut enough = [7; 16];
+    worked_show::asked(10, b", 15 words,");
     worked_show::show_verdict(t, &mut short, &mut confs);
-    worked_show::asked(10, b", 8 words,");
+    worked_show::asked(10, b", 16 words,");
     worked_show::show_verdict(t, &mut enough, &mut confs);
 }
 
 fn verdict_of(law: u64, t: &[u64]) {
-    let mut local = [7; 48];
-    let mut confs = [7; 48];
+    let mut local = [7; PLENTY];
+    let mut confs = [7; PLENTY];
     worked_show::asked(law, b"");
     worked_show::show_verdict(t, &mut local, &mut confs);
 }
@@ -220,7 +247,7 @@ fn show_words(law: u64, t: &[u64], verdict: bool) {
 
 // A law, from its text: its verdict, or the operations below.
 fn show(number: u64, verdict: bool) {
-    let mut words = [0; WORDS];
+    let mut words = [0; text::MOST_WORDS];
     let n = law(number, &mut words);
     show_words(number, &words[..n], verdict);
 }
@@ -237,4 +264,6 @@ fn main() {
     show_laws(11, 13, false);
     show_laws(5, 9, false);
     show_laws(1, 11, true);
+    show(13, false);
+    show(13, true);
 }

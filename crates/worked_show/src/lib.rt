@@ -3,6 +3,7 @@ use fault::Failing;
 use fault::Fault;
 use fault::Verdict;
 use fault::VerdictAnswer;
+use mask::Mask;
 use mask::Shared;
 use run_outcome::Outcome;
 use run_outcome::ReplayAnswer;
@@ -38,6 +39,20 @@ fn say_number(text: &[u8], n: u64) {
 
 fn end() {
     say(b"\n");
+}
+
+// The low word of a mask, and the high word where it has a fact.
+fn facts(m: Mask) {
+    let w = mask::words(m);
+    number(w[0]);
+    if w[1] != 0 {
+        number(w[1]);
+    }
+}
+
+fn say_facts(text: &[u8], m: Mask) {
+    say(text);
+    facts(m);
 }
 
 fn line(text: &[u8], n: u64) {
@@ -97,18 +112,23 @@ pub fn show_check(law: u64, t: &[u64]) {
 
 fn show_decision(d: Decision) {
     match d {
-        Decision::Go(next) => line(b" go", mask::to_word(next.0)),
+        Decision::Go(next) => {
+            say_facts(b" go", next.0);
+            end();
+        }
         Decision::Wait => say(b" wait\n"),
         Decision::Collision => say(b" collision\n"),
     }
 }
 
-pub fn show_step(law: u64, t: &[u64], action: u16, g: u64) {
+// A step at the shared copy of these two words.
+pub fn show_step(law: u64, t: &[u64], action: u16, low: u64, high: u64) {
+    let g = mask::of_words(low, high);
     asked(law, b" step");
     number(action as u64);
-    say_number(b" at", g);
+    say_facts(b" at", g);
     say(b":");
-    let s = step::step(t, action, Shared(mask::of_word(g)));
+    let s = step::step(t, action, Shared(g));
     match s {
         Stepped::Refused(k) => refused(k),
         Stepped::Gives(d) => show_decision(d),
@@ -181,7 +201,7 @@ fn show_replay(law: u64, t: &[u64], plans: &[u16], ends: &[u64], picks: &[u8]) {
             let outcome = e.outcome;
             show_outcome(outcome);
             let g = e.shared;
-            say_number(b", shared", mask::to_word(g.0));
+            say_facts(b", shared", g.0);
             line(b", picks", e.picked as u64);
         }
     }
@@ -201,7 +221,7 @@ fn show_answer_of(a: Answer) {
 fn show_run(at: Numbered) {
     let run = at.run;
     let g = run.shared;
-    say_number(b" shared", mask::to_word(g.0));
+    say_facts(b" shared", g.0);
     let p = run.places;
     say_number(b", places", p[0]);
     number(p[1]);
@@ -321,7 +341,7 @@ pub fn show_change(law: u64, t: &[u64], plans: &[u16], ends: &[u64], change: u32
     number(change as u64);
     say(b":");
     let run = Run {
-        shared: Shared(mask::of_word(1)),
+        shared: Shared(mask::of_words(1, 0)),
         places: [0; 8],
         closed: Closed::NotYet,
     };
@@ -349,7 +369,8 @@ pub fn show_pick(law: u64, t: &[u64], plans: &[u16], ends: &[u64], member: u8) {
                 let at = p.run;
                 let after = at.run;
                 let g = after.shared;
-                line(b" go", mask::to_word(g.0));
+                say_facts(b" go", g.0);
+                end();
             }
         },
     }

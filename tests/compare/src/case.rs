@@ -2,6 +2,7 @@
 
 use crate::lent::Lent;
 use reference::generate::{text, Cell};
+use reference::interface::ROW;
 use std::fmt;
 
 /// How a case came out, for the count of what was covered.
@@ -188,7 +189,7 @@ impl fmt::Display for Failure {
         writeln!(to, "{}", self.operation)?;
         match &self.input {
             Input::Task(words) => {
-                if words.len() % 5 != 0 {
+                if words.len() % ROW != 0 {
                     writeln!(
                         to,
                         "the task has {} words, and its last record is short:",

@@ -5,7 +5,10 @@ mod listed;
 
 use compare::driver::{run, Options};
 use reference::fast::{copies, Fast, Task, DEAD};
-use reference::interface::{no_run, out_length, Interface, Ticket, CHANGE, LAST, RUN, SHARED};
+use reference::interface::{
+    mask_of, no_run, out_length, Interface, Ticket, CHANGE, FACTS, LAST, MASK, ROW, ROWS, RUN,
+    SHARED,
+};
 use reference::wrong;
 use std::cell::Cell;
 
@@ -16,9 +19,15 @@ listed! {
         TaskRefusesAll,
         TaskRangeBeforeLength,
         TaskWaitUnchecked,
+        TaskOneFactMore,
+        TaskFactsOfOneWord,
+        TaskFactsCut,
+        TaskHighWordUncheckedWhereFactsAreFew,
         StepDeletesAfterAdding,
         StepCollidesWhereItWaits,
         StepLongCopyTaken,
+        StepShortCopyTaken,
+        StepTwoNumbersAsked,
         OutAfterRefusal,
         OutBeyondTheAnswer,
         SoloIndexFromOne,
@@ -26,6 +35,9 @@ listed! {
         SearchMarksUncleared,
         SearchNineUncleared,
         SearchFullTableRefused,
+        SearchMarksComparedWithWords,
+        SearchOddWordLeft,
+        SearchOddWordLeftAfterNine,
         SearchAllLive,
         SearchTwoNumbersAsked,
         SearchTwoNumbersGiven,
@@ -47,6 +59,7 @@ listed! {
         SearchLastSweepUncounted,
         SearchOneSweep,
         JointCountsTheCollision,
+        JointFourNumbersAsked,
         JointAlwaysOpen,
         JointPicksAfterTheEndTaken,
         JointMissedHighest,
@@ -62,7 +75,7 @@ listed! {
         PickStaysAtTheLast,
         PickLastTooEarly,
         PickCollidesAtTheLast,
-        PickTenWords,
+        PickElevenWords,
         PickChangeCut,
         AskCounts,
         AskWaitingCounted,
@@ -82,8 +95,8 @@ listed! {
         AskTicketCut,
         AskTicketOfAnother,
         AskTicketLostWhereWaiting,
-        AskThreeNumbers,
-        AskTenWords,
+        AskFourNumbers,
+        AskElevenWords,
         AskChangeCut,
         CommitStaleTaken,
         CommitOlderTaken,
@@ -105,14 +118,14 @@ listed! {
         CommitStaysAtTheLast,
         CommitLastTooEarly,
         CommitNoNumber,
-        CommitTenWords,
+        CommitElevenWords,
         CommitChangeCut,
         StartAbsentPlacesLeft,
         StartCollidedLeft,
         StartBeyondTheRun,
         StartChangeLeft,
         StartChangeRead,
-        StartTenWords,
+        StartElevenWords,
         PlayStopsWherePassedOver,
         PlayAnswersBeyondThePicks,
         PlayCollidedLeft,
@@ -126,7 +139,7 @@ listed! {
         PlayEndsAtTheLast,
         PlayRefusedAtTheLast,
         PlayImpossibleAtTheLast,
-        PlayTenWords,
+        PlayElevenWords,
         PlayChangeCut,
         VerdictRobust,
         VerdictCountOff,
@@ -136,7 +149,13 @@ listed! {
         VerdictConflictDirty,
         VerdictConflictNumberOff,
         VerdictTablesOfUnsolvableEmpty,
+        VerdictCopiesCountedInWords,
+        VerdictConfigurationsCountedInWords,
+        VerdictOddLocalWordsLeft,
+        VerdictOddWordsLeft,
         ReadWordsLeft,
+        ReadFiveFields,
+        ReadRoomOfFiveFields,
         ReadLeadingZero,
         ReadLongWordsUncleared,
         ReadLineFeedAlone,
@@ -160,12 +179,48 @@ fn on_words(run: &mut [u64], words: Vec<u64>, call: impl FnOnce(&mut [u64]) -> u
     refusal
 }
 
+/// A call with more numbers than are lent, which get those of an answer that there is room for.
+fn in_more(out: &mut [u64], more: &mut [u64], call: impl FnOnce(&mut [u64]) -> u64) -> u64 {
+    let refusal = call(more);
+    if refusal == 0 {
+        out.copy_from_slice(&more[..out.len()]);
+    }
+    refusal
+}
+
+/// The same task with another number of facts.
+fn with_facts(task: &[u64], facts: usize) -> Vec<u64> {
+    [&[facts as u64], &task[1..]].concat()
+}
+
+/// Puts back what stood in the words after the last whole row of so many copies.
+fn left_over(table: &mut [u64], before: &[u64], copies: usize) {
+    let used = table.len() - table.len() % (MASK * copies);
+    table[used..].copy_from_slice(&before[used..]);
+}
+
+/// The text with nine fields a record for one with five: zeros between.
+fn widened(text: &[u8]) -> Option<Vec<u8>> {
+    let text = std::str::from_utf8(text).ok()?;
+    let mut wide = String::new();
+    for (number, record) in text.trim_end_matches("\r\n").split("\r\n").enumerate() {
+        let fields: Vec<&str> = record.split(',').collect();
+        let [first, second, third, fourth, fifth] = fields[..] else { return None };
+        wide += &if number == 0 {
+            format!("{first},{second},{third},{fourth},0,0,0,0,{fifth}\r\n")
+        } else {
+            format!("{first},{second},0,{third},0,{fourth},0,{fifth},0\r\n")
+        };
+    }
+    Some(wide.into_bytes())
+}
+
 impl Broken {
-    /// What one of these takes in place of a run that is refused: ten words, or a change number of
-    /// more than 32 bits.
-    fn taken(self, [ten, cut]: [Broken; 2], run: &[u64]) -> Option<Vec<u64>> {
+    /// What one of these takes in place of a run that is refused: eleven words, or a change number
+    /// of more than 32 bits.
+    fn taken(self, [eleven, cut]: [Broken; 2], run: &[u64]) -> Option<Vec<u64>> {
         let mut words = run.to_vec();
-        if self == ten && run.len() == RUN - 1 {
+        if self == eleven && run.len() == RUN - 1 {
             words.push(0);
         } else if self == cut && run.len() >= RUN && no_run(run) {
             words[CHANGE] &= u64::from(LAST);
@@ -263,22 +318,47 @@ impl Interface for Broken {
     fn task(&self, task: &[u64]) -> u64 {
         match (self, Fast.task(task)) {
             (TaskRefusesAll, 0) => 2,
-            (TaskRangeBeforeLength, 1) if task.len() < 5 => 2,
+            (TaskRangeBeforeLength, 1) if task.len() < ROW => 2,
             (TaskWaitUnchecked, 6) => 0,
+            (TaskOneFactMore, 2) if task[0] == FACTS as u64 + 1 => {
+                Fast.task(&with_facts(task, FACTS))
+            }
+            (TaskFactsOfOneWord, 0) if task[0] > 64 => 2,
+            (TaskFactsCut, 2) => Fast.task(&with_facts(task, task[0] as usize % 256)),
+            (TaskHighWordUncheckedWhereFactsAreFew, 4) if task[0] <= 64 => {
+                let mut words = task.to_vec();
+                words[4] = 0;
+                for row in words.chunks_mut(ROW).skip(1) {
+                    row.iter_mut().skip(MASK).step_by(MASK).for_each(|high| *high = 0);
+                }
+                Fast.task(&words)
+            }
             (_, refusal) => refusal,
         }
     }
 
     fn step(&self, task: &[u64], action: u16, shared: &[u64], out: &mut [u64]) -> u64 {
-        if *self == StepLongCopyTaken && shared.len() > 1 {
-            return Fast.step(task, action, &shared[..1], out);
+        match self {
+            StepLongCopyTaken if shared.len() > MASK => {
+                return Fast.step(task, action, &shared[..MASK], out);
+            }
+            StepShortCopyTaken if shared.len() == 1 => {
+                return Fast.step(task, action, &[shared[0], 0], out);
+            }
+            StepTwoNumbersAsked if out.len() == 2 => {
+                return in_more(out, &mut [0; out_length::STEP], |out| {
+                    Fast.step(task, action, shared, out)
+                });
+            }
+            _ => {}
         }
         let refusal = Fast.step(task, action, shared, out);
         if refusal == 0 {
             match (self, out[0]) {
                 (StepDeletesAfterAdding, 0) => {
-                    let row = 5 * (1 + task[1] as usize + action as usize);
-                    out[1] &= !task[row + 4];
+                    let row = &task[ROW * (1 + task[1] as usize + action as usize)..][..ROW];
+                    out[1] &= !row[7];
+                    out[2] &= !row[8];
                 }
                 (StepCollidesWhereItWaits, 1) => out[0] = 2,
                 _ => {}
@@ -313,23 +393,30 @@ impl Interface for Broken {
         let (last, first) = (marks.last().copied(), table.first().copied());
         let (lent, kept) = (marks.to_vec(), out.get(2).copied());
         if *self == SearchTwoNumbersAsked && out.len() == 2 {
-            let mut three = [0; out_length::SOLO_SEARCH];
-            let refusal = Fast.solo_search(task, member, table, marks, &mut three);
-            if refusal == 0 {
-                out.copy_from_slice(&three[..2]);
-            }
-            return refusal;
+            return in_more(out, &mut [0; out_length::SOLO_SEARCH], |out| {
+                Fast.solo_search(task, member, table, marks, out)
+            });
+        }
+        let (rows, end) = (table.len() / MASK, table.last().copied());
+        if *self == SearchMarksComparedWithWords && (rows..table.len()).contains(&marks.len()) {
+            return match Fast.solo_search(task, member, &mut [], &mut [], &mut [0; 3]) {
+                9 => 14,
+                refusal => refusal,
+            };
         }
         let refusal = Fast.solo_search(task, member, table, marks, out);
         if refusal == 0 {
             self.miscount(task, member, marks, &lent, kept, out);
         }
         match (self, refusal) {
-            (SearchMarksUncleared, 0) if marks.len() > table.len() => {
+            (SearchOddWordLeft, 0) | (SearchOddWordLeftAfterNine, 9) if table.len() % MASK == 1 => {
+                *table.last_mut().expect("an odd word") = end.unwrap_or(0);
+            }
+            (SearchMarksUncleared, 0) if marks.len() > rows => {
                 *marks.last_mut().expect("longer than the table") = last.unwrap_or(0);
             }
             (SearchNineUncleared, 9) if !table.is_empty() => table[0] = first.unwrap_or(0),
-            (SearchFullTableRefused, 0) if out[0] == table.len() as u64 => {
+            (SearchFullTableRefused, 0) if out[0] == rows as u64 => {
                 table.fill(0);
                 marks.fill(0);
                 return 9;
@@ -348,6 +435,11 @@ impl Interface for Broken {
         picks: &[u8],
         out: &mut [u64],
     ) -> u64 {
+        if *self == JointFourNumbersAsked && out.len() == 4 {
+            return in_more(out, &mut [0; out_length::JOINT_REPLAY], |out| {
+                Fast.joint_replay(task, plans, ends, picks, out)
+            });
+        }
         let refusal = Fast.joint_replay(task, plans, ends, picks, out);
         match (self, refusal) {
             (JointCountsTheCollision, 0) if out[0] == 1 => out[2] += 1,
@@ -357,7 +449,9 @@ impl Interface for Broken {
                 return Fast.joint_replay(task, plans, ends, &picks[..length], out);
             }
             (JointMissedHighest, 0) if out[0] == 3 => {
-                let missed = |&member: &usize| task[5 * (1 + member) + 1] & !out[3] != 0;
+                let shared = mask_of(&out[3..]);
+                let goal = |member: usize| mask_of(&task[ROW * (1 + member) + 1..]);
+                let missed = |&member: &usize| goal(member) & !shared != 0;
                 out[1] = (0..task[1] as usize).rfind(missed).unwrap_or(0) as u64;
             }
             _ => {}
@@ -378,7 +472,7 @@ impl Interface for Broken {
         if *self == PickCollidedTakenAsOne && run.first().is_some_and(|&word| word > 1) {
             run[0] = 0;
         }
-        if let Some(words) = self.taken([PickTenWords, PickChangeCut], run) {
+        if let Some(words) = self.taken([PickElevenWords, PickChangeCut], run) {
             return on_words(run, words, |run| Fast.pick(task, plans, ends, run, member, out));
         }
         let refusal = Fast.pick(task, plans, ends, run, member, out);
@@ -425,16 +519,13 @@ impl Interface for Broken {
         member: u8,
         out: &mut [u64],
     ) -> u64 {
-        if let Some(mut words) = self.taken([AskTenWords, AskChangeCut], run) {
+        if let Some(mut words) = self.taken([AskElevenWords, AskChangeCut], run) {
             return Fast.ask(task, plans, ends, &mut words, member, out);
         }
-        if *self == AskThreeNumbers && out.len() == 3 {
-            let mut four = [0; out_length::ASK];
-            let refusal = Fast.ask(task, plans, ends, run, member, &mut four);
-            if refusal == 0 {
-                out.copy_from_slice(&four[..3]);
-            }
-            return refusal;
+        if *self == AskFourNumbers && out.len() == 4 {
+            return in_more(out, &mut [0; out_length::ASK], |out| {
+                Fast.ask(task, plans, ends, run, member, out)
+            });
         }
         let refusal = Fast.ask(task, plans, ends, run, member, out);
         if refusal == 0 {
@@ -456,19 +547,21 @@ impl Interface for Broken {
             }
             (AskNoStepWaits, 13) if run[0] == 0 => {
                 let change = run[CHANGE];
-                out[..4].copy_from_slice(&[1, 0, u64::from(member), change]);
+                out[..5].copy_from_slice(&[1, 0, 0, u64::from(member), change]);
                 return 0;
             }
             (AskWaitIsCollision, 0) if out[0] == 1 => out[0] = 2,
             (AskCollisionIsWait, 0) if out[0] == 2 => out[0] = 1,
-            (AskCopyBefore, 0) if out[0] == 0 => out[1] = run[SHARED],
-            (AskCopyLost, 0) => out[1] = 0,
-            (AskCopyWhereNone, 0) if out[0] != 0 => out[1] = run[SHARED],
-            (AskTicketAfterThePick, 0) => out[3] += 1,
-            (AskTicketOfTheStart, 0) => out[3] = 0,
-            (AskTicketCut, 0) => out[3] &= 0xffff,
-            (AskTicketOfAnother, 0) => out[2] ^= 1,
-            (AskTicketLostWhereWaiting, 0) if out[0] == 1 => out[2..4].fill(0),
+            (AskCopyBefore, 0) if out[0] == 0 => out[1..3].copy_from_slice(&run[SHARED..CHANGE]),
+            (AskCopyLost, 0) => out[1..3].fill(0),
+            (AskCopyWhereNone, 0) if out[0] != 0 => {
+                out[1..3].copy_from_slice(&run[SHARED..CHANGE]);
+            }
+            (AskTicketAfterThePick, 0) => out[4] += 1,
+            (AskTicketOfTheStart, 0) => out[4] = 0,
+            (AskTicketCut, 0) => out[4] &= 0xffff,
+            (AskTicketOfAnother, 0) => out[3] ^= 1,
+            (AskTicketLostWhereWaiting, 0) if out[0] == 1 => out[3..5].fill(0),
             _ => {}
         }
         self.refused(refusal, out)
@@ -484,7 +577,7 @@ impl Interface for Broken {
         out: &mut [u64],
     ) -> u64 {
         let before = run.to_vec();
-        if let Some(words) = self.taken([CommitTenWords, CommitChangeCut], run) {
+        if let Some(words) = self.taken([CommitElevenWords, CommitChangeCut], run) {
             return on_words(run, words, |run| Fast.commit(task, plans, ends, run, ticket, out));
         }
         if *self == CommitNoNumber && out.is_empty() {
@@ -554,7 +647,7 @@ impl Interface for Broken {
 
     fn start(&self, task: &[u64], run: &mut [u64]) -> u64 {
         let before = run.to_vec();
-        if let Some(words) = self.taken([StartTenWords, StartTenWords], run) {
+        if let Some(words) = self.taken([StartElevenWords, StartElevenWords], run) {
             return on_words(run, words, |run| Fast.start(task, run));
         }
         if *self == StartChangeRead && no_run(run) {
@@ -584,7 +677,7 @@ impl Interface for Broken {
         answers: &mut [u64],
     ) -> u64 {
         let (before, told) = (run.to_vec(), answers.to_vec());
-        if let Some(words) = self.taken([PlayTenWords, PlayChangeCut], run) {
+        if let Some(words) = self.taken([PlayElevenWords, PlayChangeCut], run) {
             return on_words(run, words, |run| Fast.play(task, plans, ends, run, picks, answers));
         }
         if *self == PlayStopsWherePassedOver && answers.len() >= picks.len() {
@@ -656,6 +749,20 @@ impl Interface for Broken {
         out: &mut [u64],
     ) -> u64 {
         let first = trail.first().copied();
+        let (ends_before, members) = ([local.to_vec(), configurations.to_vec()], task.get(1));
+        let members = members.map_or(1, |&members| members.clamp(1, 8) as usize);
+        if Fast.task(task) == 0 && out.len() >= out_length::VERDICT {
+            let copies = local.len() / members * members;
+            let most = configurations.len() / (members + 1);
+            let short = match self {
+                VerdictCopiesCountedInWords => marks.len() < copies,
+                VerdictConfigurationsCountedInWords => picks.len() < most,
+                _ => false,
+            };
+            if short {
+                return 14;
+            }
+        }
         let refusal =
             Fast.verdict(task, local, marks, configurations, trail, plans, ends, picks, out);
         match (self, refusal) {
@@ -666,7 +773,7 @@ impl Interface for Broken {
                 picks.fill(0);
             }
             (VerdictCountOff, 0) if out[0] == 0 => out[2] += 1,
-            (VerdictNineFirst, 0) if configurations.len() < 4 => {
+            (VerdictNineFirst, 0) if configurations.len() < 4 * MASK => {
                 for slice in [local, configurations, trail, ends] {
                     slice.fill(0);
                 }
@@ -682,6 +789,10 @@ impl Interface for Broken {
             }
             (VerdictConflictNumberOff, 0) if out[0] > 1 && out[2] > 0 => out[2] -= 1,
             (VerdictTablesOfUnsolvableEmpty, 0) if out[0] == 1 => local.fill(0),
+            (VerdictOddLocalWordsLeft, 0) => left_over(local, &ends_before[0], members),
+            (VerdictOddWordsLeft, 0) => {
+                left_over(configurations, &ends_before[1], members + 1);
+            }
             _ => {}
         }
         self.refused(refusal, out)
@@ -691,13 +802,29 @@ impl Interface for Broken {
         let before = slice.to_vec();
         let refusal = Fast.read(text, slice, out);
         match (self, refusal) {
+            (ReadFiveFields, 15) => {
+                if let Some(wide) = widened(text) {
+                    return Fast.read(&wide, slice, out);
+                }
+            }
+            (ReadRoomOfFiveFields, 14) if slice.len() >= 5 * ROWS && !out.is_empty() => {
+                let mut room = [0; ROW * ROWS];
+                let refusal = Fast.read(text, &mut room, out);
+                if refusal == 0 {
+                    let length = slice.len();
+                    slice.copy_from_slice(&room[..length]);
+                }
+                return refusal;
+            }
             (ReadWordsLeft, 15) => slice.copy_from_slice(&before),
             (ReadLeadingZero, 15) => {
                 let plain =
                     String::from_utf8_lossy(text).replace(",00,", ",0,").replace(",01,", ",1,");
                 return Fast.read(plain.as_bytes(), slice, out);
             }
-            (ReadLongWordsUncleared, 0) => slice[1325..].copy_from_slice(&before[1325..]),
+            (ReadLongWordsUncleared, 0) => {
+                slice[ROW * ROWS..].copy_from_slice(&before[ROW * ROWS..])
+            }
             (ReadLineFeedAlone, 15) => {
                 let plain =
                     String::from_utf8_lossy(text).replace("\r\n", "\n").replace('\n', "\r\n");

@@ -12,9 +12,9 @@ fn verdict(by: &impl Interface, words: &[u64]) -> ([u64; out_length::VERDICT], [
     let (mut out, mut ends) = ([0; out_length::VERDICT], [0; 8]);
     let refusal = by.verdict(
         words,
+        &mut [0; 1200],
         &mut [0; 600],
-        &mut [0; 600],
-        &mut [0; 2000],
+        &mut [0; 4000],
         &mut [0; 2000],
         &mut [0; 2000],
         &mut ends,
@@ -31,7 +31,7 @@ fn a_fault_after_fewer_picks_is_found() {
     let late = ["LastRow", "LongWalk"].map(other);
     let mut found = [0; 2];
     let mut conflicts = 0;
-    for case in 0..3000 {
+    for case in 0..15_000 {
         let words = tiny(&mut Random::new(31, case)).words();
         let (numbers, ends) = verdict(&Fast, &words);
         assert_eq!(beside_brute_force(&words, numbers, &ends), Ok(()), "case {case}");

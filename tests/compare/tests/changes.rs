@@ -53,7 +53,7 @@ fn runs_and_tickets_stand_at_every_edge() {
             continue;
         }
         let (plans, ends) = (&bundle.plans, &bundle.ends);
-        let (mut told, mut picked, mut done) = ([9; 4], [9], [9]);
+        let (mut told, mut picked, mut done) = ([9; out_length::ASK], [9], [9]);
         let ask = paper::ask(&words, plans, ends, &run, member, &mut told);
         let pick = paper::pick(&words, plans, ends, &mut run.clone(), member, &mut picked);
         let commit = paper::commit(&words, plans, ends, &mut run.clone(), ticket, &mut done);
@@ -84,7 +84,7 @@ fn runs_and_tickets_stand_at_every_edge() {
     for (name, most) in [("ask", out_length::ASK), ("commit", out_length::COMMIT)] {
         asked.extend((0..=most + 2).map(|length| format!("{name}: out of {length}")));
     }
-    asked.extend([0, 1, 9, 10, 11, 14].map(|length| format!("a run of {length} words")));
+    asked.extend([0, 1, 10, 11, 12, 15].map(|length| format!("a run of {length} words")));
     asked.extend(
         ["4,294,967,296", "2^64 - 1", "another"]
             .map(|word| format!("a change number above: {word}")),

@@ -6,7 +6,11 @@ mod listed;
 
 use compare::driver::{run, Options};
 use reference::fast::Fast;
-use reference::interface::{no_run, Interface, Ticket, CHANGE, LAST, RUN, SHARED};
+use reference::generate::all;
+use reference::interface::{
+    mask_of, no_run, out_length, Interface, Ticket, CHANGE, FACTS, LAST, MASK, ROW, ROWS, RUN,
+    SHARED,
+};
 
 listed! {
     /// The pair that is exchanged: the second stands before the first in the paper.
@@ -77,21 +81,30 @@ use Exchanged::*;
 
 /// The first row that the task check refuses.
 fn refused_row(task: &[u64]) -> Option<&[u64]> {
-    let (members, rows) = (*task.get(1)? as usize, task.chunks(5).skip(1));
-    let known = u64::MAX >> (64 - task[0].clamp(1, 64));
+    let (members, rows) = (*task.get(1)? as usize, task.chunks(ROW).skip(1));
     rows.enumerate().find_map(|(row, words)| {
-        let bits = |words: &[u64]| words.iter().any(|&mask| mask & !known != 0);
         let bad = if row < members {
-            words[0] != row as u64 || words[2..] != [0; 3] || bits(&words[1..2])
+            words[0] != row as u64 || words[3..] != [0; 6] || exceeds(task, &words[1..])
         } else {
-            words[0] >= members as u64 || bits(&words[1..]) || words[2] & !words[1] != 0
+            words[0] >= members as u64 || any_exceeds(task, words) || waits_for_more(words)
         };
         bad.then_some(words)
     })
 }
 
-fn exceeds(task: &[u64], word: u64) -> bool {
-    word & !(u64::MAX >> (64 - task[0].clamp(1, 64))) != 0
+/// Whether the mask of the first two words has a bit at or above F.
+fn exceeds(task: &[u64], words: &[u64]) -> bool {
+    mask_of(words) & !all(task[0].clamp(1, FACTS as u64) as usize) != 0
+}
+
+/// Whether one of an action's masks has.
+fn any_exceeds(task: &[u64], row: &[u64]) -> bool {
+    row[1..].chunks(MASK).any(|mask| exceeds(task, mask))
+}
+
+/// Whether an action's wait is not within its pre.
+fn waits_for_more(row: &[u64]) -> bool {
+    mask_of(&row[3..]) & !mask_of(&row[1..]) != 0
 }
 
 impl Interface for Exchanged {
@@ -101,22 +114,18 @@ impl Interface for Exchanged {
         match (self, refusal, row) {
             (LengthThenRange, 2, _) => {
                 let rows = task[1].saturating_add(task[2]).saturating_add(1);
-                if rows.checked_mul(5) != Some(task.len() as u64) {
+                if rows.checked_mul(ROW as u64) != Some(task.len() as u64) {
                     1
                 } else {
                     2
                 }
             }
-            (InitialThenLength, 1, _) if task.len() >= 5 && exceeds(task, task[3]) => 4,
-            (GoalThenInitial, 4, _) if exceeds(task, task[3]) && task[5] != 0 => 3,
-            (GoalBitThenGoalRow, 3, Some(row)) if exceeds(task, row[1]) => 4,
-            (ActionBitThenOwner, 5, Some(row))
-                if row[1..].iter().any(|&mask| exceeds(task, mask)) =>
-            {
-                4
-            }
+            (InitialThenLength, 1, _) if task.len() >= ROW && exceeds(task, &task[3..]) => 4,
+            (GoalThenInitial, 4, _) if exceeds(task, &task[3..]) && task[ROW] != 0 => 3,
+            (GoalBitThenGoalRow, 3, Some(row)) if exceeds(task, &row[1..]) => 4,
+            (ActionBitThenOwner, 5, Some(row)) if any_exceeds(task, row) => 4,
             (WaitThenActionBit, 4, Some(row))
-                if !exceeds(task, task[3]) && row[2] & !row[1] != 0 =>
+                if !exceeds(task, &task[3..]) && waits_for_more(row) =>
             {
                 6
             }
@@ -127,7 +136,7 @@ impl Interface for Exchanged {
     fn step(&self, task: &[u64], action: u16, shared: &[u64], out: &mut [u64]) -> u64 {
         match (self, Fast.step(task, action, shared, out)) {
             (ActionThenTask, 3..=6) if Fast.task(task) != 0 && action as u64 >= task[2] => 7,
-            (FactThenAction, 7) if exceeds(task, shared[0]) => 4,
+            (FactThenAction, 7) if exceeds(task, shared) => 4,
             (_, refusal) => refusal,
         }
     }
@@ -138,7 +147,7 @@ impl Interface for Exchanged {
             (EntryThenMember, 8) if plan.iter().any(unknown) => 7,
             (OthersThenAction, 7) => {
                 let others = |&entry: &u16| {
-                    let owner = task.get(5 * (1 + task[1] as usize + entry as usize));
+                    let owner = task.get(ROW * (1 + task[1] as usize + entry as usize));
                     owner.is_some_and(|&owner| owner != member as u64)
                 };
                 if plan.iter().any(others) {
@@ -159,12 +168,12 @@ impl Interface for Exchanged {
         marks: &mut [u8],
         out: &mut [u64],
     ) -> u64 {
-        let lengths = (table.len(), marks.len());
+        let lengths = (table.len() / MASK, marks.len());
         match (self, Fast.solo_search(task, member, table, marks, out)) {
             (TaskThenSearchOut, 14) if out.len() < 3 && Fast.task(task) != 0 => Fast.task(task),
             (MarksThenMember, 8) if lengths.1 < lengths.0 => 14,
             (FullThenMarks, 14) if lengths.1 < lengths.0 => {
-                let (mut room, mut live) = (vec![0; lengths.0], vec![0; lengths.0]);
+                let (mut room, mut live) = (vec![0; MASK * lengths.0], vec![0; lengths.0]);
                 match Fast.solo_search(task, member, &mut room, &mut live, &mut [0; 3]) {
                     9 => 9,
                     _ => 14,
@@ -190,7 +199,7 @@ impl Interface for Exchanged {
             (PickThenPlans, 7 | 10..=12) if picks.iter().any(absent) => 8,
             (ImpossibleThenPickedMember, 8) => {
                 let before = picks.iter().position(absent).unwrap_or(0);
-                let mut earlier = [0; 4];
+                let mut earlier = [0; out_length::JOINT_REPLAY];
                 Fast.joint_replay(task, plans, ends, &picks[..before], &mut earlier);
                 if earlier[0] == 1 {
                     13
@@ -220,15 +229,15 @@ impl Interface for Exchanged {
             return refusal;
         }
         // What would be refused if one fault were not there.
-        let without = |place: usize, word: u64, member: u8| {
+        let without_shared = || {
             let mut run = run.to_vec();
-            run[place] = word;
+            run[SHARED..CHANGE].fill(0);
             Fast.pick(task, plans, ends, &mut run, member, &mut [0])
         };
         let last = run[CHANGE] == u64::from(LAST);
         match (self, refusal) {
-            (PlaceThenShared, 4) if without(SHARED, 0, member) == 11 => 11,
-            (SharedThenPlans, 7 | 10 | 12) if exceeds(task, run[SHARED]) => 4,
+            (PlaceThenShared, 4) if without_shared() == 11 => 11,
+            (SharedThenPlans, 7 | 10 | 12) if exceeds(task, &run[SHARED..]) => 4,
             (MemberThenPlace, 11) if member as u64 >= task[1] => 8,
             (ImpossibleThenMember, 8) if run[0] != 0 => 13,
             (ImpossibleThenPlace, 11) if run[0] != 0 => 13,
@@ -253,7 +262,9 @@ impl Interface for Exchanged {
         let refusal = Fast.ask(task, plans, ends, run, member, out);
         match (self, refusal, Fast.task(task)) {
             (AskTaskThenOut, 14, task @ 1..) if !no_run(run) => return task,
-            (AskTaskThenChange, 14, task @ 1..) if run.len() >= RUN && out.len() >= 4 => {
+            (AskTaskThenChange, 14, task @ 1..)
+                if run.len() >= RUN && out.len() >= out_length::ASK =>
+            {
                 return task;
             }
             (_, 1.., 0) if !no_run(run) => {}
@@ -261,11 +272,11 @@ impl Interface for Exchanged {
         }
         let shared_alone = |refused: u64| {
             let mut run = run.to_vec();
-            run[SHARED] = 0;
-            Fast.ask(task, plans, ends, &mut run, member, &mut [0; 4]) == refused
+            run[SHARED..CHANGE].fill(0);
+            Fast.ask(task, plans, ends, &mut run, member, &mut [0; out_length::ASK]) == refused
         };
         match (self, refusal) {
-            (AskSharedThenPlans, 7 | 10..=12) if exceeds(task, run[SHARED]) => 4,
+            (AskSharedThenPlans, 7 | 10..=12) if exceeds(task, &run[SHARED..]) => 4,
             (AskPlaceThenShared, 4) if shared_alone(11) => 11,
             (AskMemberThenPlace, 11) if member as u64 >= task[1] => 8,
             (AskImpossibleThenPlace, 11) if run[0] != 0 => 13,
@@ -293,16 +304,16 @@ impl Interface for Exchanged {
             _ => return refusal,
         }
         // A plain pick of the member, with another shared copy or without one that is wrong.
-        let pick = |shared: u64| {
+        let pick = |shared: &[u64]| {
             let mut run = run.to_vec();
-            run[SHARED] = shared;
+            run[SHARED..CHANGE].copy_from_slice(shared);
             Fast.pick(task, plans, ends, &mut run, ticket.member, &mut [0])
         };
-        let (shared, now) = (run[SHARED], run[CHANGE]);
+        let (shared, now) = (&run[SHARED..CHANGE], run[CHANGE]);
         let (stale, last) = (u64::from(ticket.change) != now, now == u64::from(LAST));
         match (self, refusal) {
             (CommitSharedThenPlans, 7 | 10..=12) if exceeds(task, shared) => 4,
-            (CommitPlaceThenShared, 4) if pick(0) == 11 => 11,
+            (CommitPlaceThenShared, 4) if pick(&[0, 0]) == 11 => 11,
             (CommitMemberThenPlace, 11) if ticket.member as u64 >= task[1] => 8,
             (CommitStaleThenPlans, 7 | 10 | 12) if stale => 19,
             (CommitStaleThenShared, 4) if stale => 19,
@@ -345,7 +356,7 @@ impl Interface for Exchanged {
             }
             (PlacesThenSharedOfPlay, 4) if refused == 0 => {
                 let mut run = run.to_vec();
-                run[SHARED] = 0;
+                run[SHARED..CHANGE].fill(0);
                 if Fast.play(task, plans, ends, &mut run, &[], &mut []) == 11 {
                     return 11;
                 }
@@ -388,11 +399,11 @@ impl Interface for Exchanged {
         }
         let members = task[1] as usize;
         let alone = |member: usize, rows: usize| {
-            let (mut table, mut marks, mut out) = (vec![0; rows], vec![0; rows], [0; 3]);
+            let (mut table, mut marks, mut out) = (vec![0; MASK * rows], vec![0; rows], [0; 3]);
             let refusal = Fast.solo_search(task, member as u8, &mut table, &mut marks, &mut out);
             (refusal, out[1])
         };
-        let rows = lengths.0 / members;
+        let rows = lengths.0 / (MASK * members);
         match (self, refusal) {
             (FullThenSlices, 14) if (0..members).any(|member| alone(member, rows).0 == 9) => 9,
             (UnsolvableThenFull, 9) if (0..members).any(|member| alone(member, rows) == (0, 0)) => {
@@ -404,7 +415,7 @@ impl Interface for Exchanged {
     }
 
     fn read(&self, text: &[u8], words: &mut [u64], out: &mut [u64]) -> u64 {
-        let alone = || Fast.read(text, &mut [0; 1325], &mut [0]);
+        let alone = || Fast.read(text, &mut [0; ROW * ROWS], &mut [0]);
         match (self, Fast.read(text, words, out)) {
             (TextThenWords, 14) if alone() == 15 => 15,
             (TaskThenWords, 14) if (1..=6).contains(&alone()) => alone(),

@@ -6,7 +6,7 @@ use compare::driver::{one_pddl, run_pddl, Options, Summary};
 use compare::operations::pddl::sizes;
 use reference::fast::pddl::{read_by, Manner};
 use reference::fast::Fast;
-use reference::interface::{give, Pddl};
+use reference::interface::{give, Pddl, FACTS, MASK, ROW};
 use reference::paper::pddl::{grouped, words};
 use reference::paper::task::check;
 use std::collections::BTreeMap;
@@ -127,8 +127,9 @@ fn every_wrong_reader_is_found() {
         LeadingZero: WAITS_LEADING_ZERO = true,
         LineFeedAlone: WAITS_LF = true,
         LimitsBeforeNames: LIMITS_FIRST = true,
-        SixtyFiveFacts: FACTS = 65,
-        SixtyThreeFacts: FACTS = 63,
+        OneFactMore: FACTS = 129,
+        OneFactLess: FACTS = 127,
+        FactsOfOneWord: FACTS = 64,
         NineMembers: MEMBERS = 9,
         SevenMembers: MEMBERS = 7,
         OneActionMore: ACTIONS = 257,
@@ -141,6 +142,36 @@ fn every_wrong_reader_is_found() {
         WordsClearedAfter14: CLEARS_SHORT = true,
     };
     assert_eq!(unnoticed, Vec::<&str>::new());
+}
+
+/// Readers that put facts at other bits.
+#[test]
+fn every_reader_with_other_bits_is_found() {
+    struct HighWordsFactsInTheLow;
+    impl Manner for HighWordsFactsInTheLow {
+        fn bit(fact: usize) -> u128 {
+            1 << (fact % 64)
+        }
+    }
+    struct WordsExchanged;
+    impl Manner for WordsExchanged {
+        fn bit(fact: usize) -> u128 {
+            1 << (fact ^ 64)
+        }
+    }
+    struct HighWordLost;
+    impl Manner for HighWordLost {
+        fn bit(fact: usize) -> u128 {
+            if fact < 64 {
+                1 << fact
+            } else {
+                0
+            }
+        }
+    }
+    assert!(found(&Reader::<HighWordsFactsInTheLow>(PhantomData)));
+    assert!(found(&Reader::<WordsExchanged>(PhantomData)));
+    assert!(found(&Reader::<HighWordLost>(PhantomData)));
 }
 
 /// The test above can fail: the right reader is not found.
@@ -157,6 +188,8 @@ fn the_right_reader_is_not_found() {
 #[derive(Clone, Copy, Debug, PartialEq)]
 enum Wrong {
     WriterLeavesOutAddedAndDeleted,
+    WriterLeavesOutTheHighWord,
+    WriterExchangesTheWords,
     WriterGroupsNothing,
     WriterForgetsWaits,
     WriterCountsWaitsAnew,
@@ -175,8 +208,10 @@ enum Wrong {
 }
 use Wrong::*;
 
-const WRONG: [Wrong; 16] = [
+const WRONG: [Wrong; 18] = [
     WriterLeavesOutAddedAndDeleted,
+    WriterLeavesOutTheHighWord,
+    WriterExchangesTheWords,
     WriterGroupsNothing,
     WriterForgetsWaits,
     WriterCountsWaitsAnew,
@@ -198,27 +233,43 @@ impl Wrong {
     /// The task that is written in place of this one.
     fn instead(self, task: &[u64]) -> Vec<u64> {
         let mut task = task.to_vec();
-        let front = 5 * (1 + task[1] as usize);
+        let front = ROW * (1 + task[1] as usize);
         match self {
             WriterLeavesOutAddedAndDeleted => {
-                task[front..].chunks_mut(5).for_each(|row| row[3] &= !row[4]);
+                task[front..].chunks_mut(ROW).for_each(|row| {
+                    row[5] &= !row[7];
+                    row[6] &= !row[8];
+                });
+            }
+            WriterLeavesOutTheHighWord => {
+                task[front..]
+                    .chunks_mut(ROW)
+                    .for_each(|row| row[2..].iter_mut().step_by(2).for_each(|high| *high = 0));
+            }
+            WriterExchangesTheWords if task[0] == FACTS as u64 => {
+                task[front..]
+                    .chunks_mut(ROW)
+                    .for_each(|row| row[1..].chunks_mut(MASK).for_each(|mask| mask.swap(0, 1)));
             }
             WriterGroupsNothing => {
-                let mut rows: Vec<Vec<u64>> = task[front..].chunks(5).map(<[_]>::to_vec).collect();
+                let mut rows: Vec<Vec<u64>> =
+                    task[front..].chunks(ROW).map(<[_]>::to_vec).collect();
                 rows.reverse();
                 task.truncate(front);
                 task.extend(rows.concat());
             }
-            WriterForgetsWaits => task[front..].chunks_mut(5).for_each(|row| row[2] = 0),
+            WriterForgetsWaits => task[front..].chunks_mut(ROW).for_each(|row| row[3..5].fill(0)),
             WriterCountsWaitsAnew => {
                 // The waits of every member's first action go to the first of all.
                 let grouped = grouped(&task);
-                let rows: Vec<&[u64]> = grouped[front..].chunks(5).collect();
+                let rows: Vec<&[u64]> = grouped[front..].chunks(ROW).collect();
                 let first = rows.iter().position(|row| row[0] != rows[0][0]);
                 if let Some(first) = first {
-                    let wait = rows[first][2] & rows[0][1];
-                    let row = task[front..].chunks_mut(5).find(|row| row[0] == rows[0][0]);
-                    row.expect("its first action")[2] |= wait;
+                    let mut own = task[front..].chunks_mut(ROW);
+                    let row = own.find(|row| row[0] == rows[0][0]).expect("its first action");
+                    for word in 0..MASK {
+                        row[3 + word] |= rows[first][3 + word] & rows[0][1 + word];
+                    }
                 }
             }
             _ => {}
@@ -236,7 +287,7 @@ impl Pddl for Wrong {
         match (self, refusal) {
             (OutAfterRefusal, 1..) if !out.is_empty() => out[0] = 0,
             (OutBeyondTheAnswer, 0) => *out.last_mut().expect("a number") = 0,
-            (RecordsOff, 0) => out[0] *= 5,
+            (RecordsOff, 0) => out[0] *= ROW as u64,
             _ => {}
         }
         refusal
@@ -385,7 +436,7 @@ fn every_size_is_reached() {
         }
     }
     let reached: [(&str, &[usize]); 11] = [
-        ("facts", &[1, 2, 7, 8, 9, 31, 32, 33, 63, 64]),
+        ("facts", &[1, 2, 7, 8, 9, 31, 32, 33, 63, 64, 65, 127, 128]),
         ("members", &[1, 2, 3, 4, 5, 6, 7, 8]),
         ("actions", &[1, 2, 127, 128, 129, 255, 256]),
         ("bytes", &[257, 1024, 65_535, 65_536, 65_537, 1_048_575, 1_048_576, 1_048_577]),
@@ -393,8 +444,8 @@ fn every_size_is_reached() {
         ("ands", &[0, 1, 2, 8, 15, 16]),
         ("word", &[255, 256, 257, 10_000, 16_383, 16_384, 16_385]),
         ("slack", &[1, 255, 256, 257, 4095, 4096, 4097]),
-        ("written text", &[413_466]),
-        ("written waits", &[121_472]),
+        ("written text", &[838_074]),
+        ("written waits", &[252_672]),
         ("written actions", &[1, 255, 256]),
     ];
     let missed: Vec<(&str, usize)> = reached

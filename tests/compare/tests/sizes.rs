@@ -8,7 +8,7 @@ mod listed;
 use compare::driver::{one, Summary};
 use compare::operations::sizes;
 use reference::fast::{copies, count_configurations, read_words, Copies, Fast, Task, DEAD};
-use reference::interface::{Interface, Ticket, CHANGE, LAST, SHARED};
+use reference::interface::{mask_of, Interface, Ticket, CHANGE, FACTS, LAST, MASK, ROW, SHARED};
 use std::collections::BTreeMap;
 use std::sync::atomic::{AtomicU64, AtomicUsize, Ordering};
 use std::sync::Mutex;
@@ -108,6 +108,13 @@ listed! {
         ReadBytes,
         ReadBadRecord,
         ReadCleared,
+        SearchFact,
+        JointFact,
+        PickFact,
+        CommitFact,
+        PlayFact,
+        VerdictLocalFact,
+        VerdictFact,
     }
 }
 use Quantity::*;
@@ -120,10 +127,11 @@ impl Quantity {
             | PickMember | AskMember | CommitMember | VerdictMembers | VerdictUnsolvable
             | VerdictMissedMember => 8,
             ReadDigits => 20,
-            TaskFacts | StepFact | StartFact | AskFact => 64,
+            TaskFacts | StepFact | StartFact | AskFact | JointFact | PickFact | CommitFact
+            | PlayFact | SearchFact | VerdictLocalFact | VerdictFact => FACTS,
             TaskActionRow | StepAction | SoloAction | VerdictActions | VerdictAction => 256,
             ReadRecords | ReadBadRecord => 265,
-            ReadWords => 1325,
+            ReadWords => ROW * 265,
             VerdictCollision | VerdictDeadlock | VerdictPlan | VerdictEntries | VerdictPick
             | VerdictMove | VerdictRest | Calls => 1024,
             VerdictMissed => 2048,
@@ -186,6 +194,13 @@ impl Twin {
         self.at(Calls, calls)
     }
 
+    /// Takes the highest fact out of an answer's mask where that is wrong.
+    fn without(&self, quantity: Quantity, mask: &mut [u64]) {
+        if facts(mask) > 0 && self.at(quantity, facts(mask)) {
+            lose_highest(mask);
+        }
+    }
+
     /// Whether the answer is wrong at this size.
     fn at(&self, quantity: Quantity, size: usize) -> bool {
         let mut met = self.met.lock().expect("no thread fails with the lock");
@@ -199,20 +214,22 @@ impl Twin {
 fn refused_row(task: &[u64]) -> Option<usize> {
     let until = |row: usize| {
         let members = (task[1] as usize).min(row);
-        let mut words = vec![task[0], members as u64, (row - members) as u64, task[3], 0];
-        words.extend(&task[5..5 * (row + 1)]);
+        let mut words = task[..ROW * (row + 1)].to_vec();
+        words[1..3].copy_from_slice(&[members as u64, (row - members) as u64]);
         words
     };
-    (1..task.len() / 5).find(|&row| Fast.task(&until(row)) != 0)
+    (1..task.len() / ROW).find(|&row| Fast.task(&until(row)) != 0)
 }
 
 /// How many facts there are up to the highest in a mask.
-fn facts(mask: u64) -> usize {
-    64 - mask.leading_zeros() as usize
+fn facts(mask: &[u64]) -> usize {
+    FACTS - mask_of(mask).leading_zeros() as usize
 }
 
-fn without_highest(mask: u64) -> u64 {
-    mask & !(1 << (facts(mask) - 1))
+/// Takes the highest fact out of a mask.
+fn lose_highest(mask: &mut [u64]) {
+    let highest = facts(mask) - 1;
+    mask[highest / 64] &= !(1 << (highest % 64));
 }
 
 /// The largest part between neighbouring ends.
@@ -235,7 +252,7 @@ fn passed(plans: &[u16], ends: &[u64], run: &[u64]) -> Option<usize> {
 
 /// The action after this one that does the same.
 fn again(task: &[u64], number: u16) -> Option<u16> {
-    let row = |number: u16| &task[5 * (1 + task[1] as usize + number as usize)..][..5];
+    let row = |number: u16| &task[ROW * (1 + task[1] as usize + number as usize)..][..ROW];
     (number + 1..task[2] as u16).find(|&other| row(other) == row(number))
 }
 
@@ -283,9 +300,7 @@ impl Interface for Twin {
             if self.at(StepAction, action as usize + 1) {
                 out[0] = (out[0] + 1) % 3;
             }
-            if out[0] == 0 && out[1] != 0 && self.at(StepFact, facts(out[1])) {
-                out[1] = without_highest(out[1]);
-            }
+            self.without(StepFact, &mut out[1..3]);
         }
         refusal
     }
@@ -329,17 +344,19 @@ impl Interface for Twin {
     ) -> u64 {
         let last = table.last().copied().unwrap_or(0);
         let refusal = Fast.solo_search(task, member, table, marks, out);
-        if refusal == 9 && last != 0 && self.at(SearchFull, table.len()) {
+        let rows = table.len() / MASK;
+        if refusal == 9 && last != 0 && self.at(SearchFull, rows) {
             *table.last_mut().expect("not empty") = last;
         }
         if refusal == 0 {
             let count = out[0] as usize;
-            if last != 0 && count < table.len() && self.at(SearchCleared, table.len() - count) {
+            if last != 0 && count < rows && self.at(SearchCleared, rows - count) {
                 *table.last_mut().expect("not empty") = last;
             }
             if self.at(SearchTable, count) {
-                table[count - 1] ^= 1;
+                table[MASK * count - 1] ^= 1;
             }
+            self.without(SearchFact, &mut table[MASK * (count - 1)..][..MASK]);
             if self.at(SearchMarks, count) {
                 marks[count - 1] ^= 1;
             }
@@ -394,10 +411,11 @@ impl Interface for Twin {
                 if self.at(JointPicks, done) {
                     out[2] -= 1;
                 }
+                self.without(JointFact, &mut out[3..5]);
             }
             7 | 10 => {
                 let known = |&entry: &u16| (entry as u64) < task[2];
-                let owner = |entry: u16| task[5 * (1 + task[1] as usize + entry as usize)];
+                let owner = |entry: u16| task[ROW * (1 + task[1] as usize + entry as usize)];
                 let mut entries = plans.iter().enumerate();
                 let bad = entries.position(|(place, entry)| {
                     let member = ends.iter().position(|&end| (place as u64) < end).unwrap_or(0);
@@ -410,7 +428,7 @@ impl Interface for Twin {
             12 if self.at(JointUnsolved, longest) => return 11,
             8 | 13 => {
                 let good = |&length: &usize| {
-                    Fast.joint_replay(task, plans, ends, &picks[..length], &mut [0; 4]) == 0
+                    Fast.joint_replay(task, plans, ends, &picks[..length], &mut [0; 5]) == 0
                 };
                 let bad = last_good(picks.len(), good);
                 if self.at(JointBadPick, bad) {
@@ -448,6 +466,9 @@ impl Interface for Twin {
                 if self.at(PickChange, before[CHANGE] as usize) {
                     run[CHANGE] = before[CHANGE];
                 }
+                if out[0] == 0 {
+                    self.without(PickFact, &mut run[SHARED..CHANGE]);
+                }
             }
             13 if self.at(PickImpossible, run[place] as usize) => return 8,
             20 if self.at(PickChange, CHANGES) => return 13,
@@ -477,18 +498,16 @@ impl Interface for Twin {
         match refusal {
             0 => {
                 let at = run[place] as usize;
-                if out[0] == 0 && out[1] != 0 && self.at(AskFact, facts(out[1])) {
-                    out[1] = without_highest(out[1]);
-                }
+                self.without(AskFact, &mut out[1..3]);
                 let kinds = [AskPlace, AskWait, AskCollision];
                 if self.at(kinds[out[0] as usize], at) || late {
                     out[0] = (out[0] + 1) % 3;
                 }
                 if self.at(AskMember, place) || self.at(AskEntries, plans.len()) {
-                    out[2] += 1;
+                    out[3] += 1;
                 }
-                if self.at(AskChange, out[3] as usize) {
-                    out[3] -= 1;
+                if self.at(AskChange, out[4] as usize) {
+                    out[4] -= 1;
                 }
             }
             13 if self.at(AskImpossible, run[place] as usize) => return 8,
@@ -529,6 +548,9 @@ impl Interface for Twin {
                 if self.at(CommitChange, before[CHANGE] as usize) || late {
                     run[CHANGE] = before[CHANGE];
                 }
+                if out[0] == 0 {
+                    self.without(CommitFact, &mut run[SHARED..CHANGE]);
+                }
             }
             13 if self.at(CommitImpossible, run[place] as usize) => return 8,
             19 => {
@@ -551,8 +573,8 @@ impl Interface for Twin {
 
     fn start(&self, task: &[u64], run: &mut [u64]) -> u64 {
         let refusal = Fast.start(task, run);
-        if refusal == 0 && run[SHARED] != 0 && self.at(StartFact, facts(run[SHARED])) {
-            run[SHARED] = without_highest(run[SHARED]);
+        if refusal == 0 {
+            self.without(StartFact, &mut run[SHARED..CHANGE]);
         }
         refusal
     }
@@ -572,6 +594,9 @@ impl Interface for Twin {
             return refusal;
         }
         let told = &mut answers[..picks.len()];
+        if told.contains(&0) {
+            self.without(PlayFact, &mut run[SHARED..CHANGE]);
+        }
         if let Some(change) = change.filter(|&change| self.at(PlayChange, change as usize)) {
             run[CHANGE] = change;
         }
@@ -619,14 +644,14 @@ impl Interface for Twin {
         let last_pick = picks.last().copied().unwrap_or(0);
         let refusal =
             Fast.verdict(task, local, marks, configurations, trail, plans, ends, picks, out);
-        if refusal == 9 && last != 0 && self.at(VerdictFull, configurations.len()) {
+        if refusal == 9 && last != 0 && self.at(VerdictFull, configurations.len() / MASK) {
             *configurations.last_mut().expect("not empty") = last;
         }
         let (0, Ok(checked)) = (refusal, Task::check(task)) else {
             return refusal;
         };
         let members = checked.members();
-        let rows = local.len() / members;
+        let rows = local.len() / (MASK * members);
         let tables: Vec<Copies> =
             (0..members).filter_map(|member| copies(&checked, member, rows)).collect();
         if self.at(VerdictMembers, members) || self.at(VerdictActions, checked.actions.len()) {
@@ -635,8 +660,9 @@ impl Interface for Twin {
         for (member, table) in tables.iter().enumerate() {
             let (copies, end) = (table.rows.len(), member * rows + table.rows.len());
             if self.at(VerdictCopies, copies) || self.at(VerdictOffset, end) {
-                local[end - 1] ^= 1;
+                local[MASK * end - 1] ^= 1;
             }
+            self.without(VerdictLocalFact, &mut local[MASK * (end - 1)..][..MASK]);
             if self.at(VerdictMarks, copies) {
                 marks[end - 1] ^= 1;
             }
@@ -649,12 +675,13 @@ impl Interface for Twin {
         }
         let count = count_configurations(&checked, &tables, configurations.len())
             .expect("they were listed");
-        let width = members + 1;
+        let width = MASK * (members + 1);
+        self.without(VerdictFact, &mut configurations[count * width - MASK..][..MASK]);
         if self.at(VerdictRows, count) {
             configurations[count * width - 1] ^= 1;
         }
         let free = configurations.len() - count * width;
-        if last != 0 && free > 0 && self.at(VerdictCleared, free) {
+        if last != 0 && free >= MASK && self.at(VerdictCleared, free / MASK) {
             *configurations.last_mut().expect("not empty") = last;
         }
         let done = out[2] as usize;
@@ -720,7 +747,7 @@ impl Interface for Twin {
         match refusal {
             0 => {
                 let records = out[0] as usize;
-                let used = 5 * records;
+                let used = ROW * records;
                 if self.at(ReadBytes, text.len()) {
                     words.fill(0);
                     return 15;
@@ -826,8 +853,12 @@ fn made_for_a_size() -> Vec<u64> {
 fn every_size_is_met_and_every_twin_that_is_wrong_from_a_size_on_is_found() {
     let met = met(&made_for_a_size());
     let powers = |&quantity: &Quantity| {
-        // The shortest text of a task has 20 bytes.
-        let least = if quantity == ReadBytes { 16 } else { FROM[0] };
+        // The shortest text of a task has 36 bytes and 18 words.
+        let least = match quantity {
+            ReadBytes => 32,
+            ReadWords => 16,
+            _ => FROM[0],
+        };
         (least.ilog2()..=quantity.most().ilog2()).map(move |power| (quantity, power))
     };
     let unmet = Quantity::ALL.iter().flat_map(powers).filter(|size| !met.contains_key(size));

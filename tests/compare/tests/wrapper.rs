@@ -3,10 +3,12 @@
 
 use compare as _;
 use lawcheck::{
-    check, joint_replay, raw, read, solo_replay, solo_search, step, verdict, Asked, Outcome,
-    Picked, Refusal, Replay, Room, Run, SoloReplay, SoloSearch, Step, Ticket, Verdict,
+    check, joint_replay, mask, mask_words, raw, read, solo_replay, solo_search, step, verdict,
+    Asked, Mask, Outcome, Picked, Refusal, Replay, Room, Run, SoloReplay, SoloSearch, Step, Ticket,
+    Verdict,
 };
 use reference::generate::text::of_words;
+use reference::law::of_rows;
 use reference::laws;
 
 #[test]
@@ -54,21 +56,24 @@ fn refusals_come_out_as_their_cases() {
         words[at] = word;
         check(&words).unwrap_err()
     };
-    assert_eq!(check(&l1[..34]), Err(Refusal::Length));
-    assert_eq!(changed(0, 65), Refusal::Range);
-    assert_eq!(changed(5, 1), Refusal::GoalRow);
+    assert_eq!(check(&l1[..62]), Err(Refusal::Length));
+    assert_eq!(changed(0, 129), Refusal::Range);
+    assert_eq!(changed(8, 1), Refusal::Range);
+    assert_eq!(changed(9, 1), Refusal::GoalRow);
+    assert_eq!(changed(17, 1), Refusal::GoalRow);
     assert_eq!(changed(3, 32), Refusal::Fact);
-    assert_eq!(changed(15, 2), Refusal::Owner);
-    assert_eq!(changed(17, 2), Refusal::Wait);
+    assert_eq!(changed(4, 1), Refusal::Fact);
+    assert_eq!(changed(27, 2), Refusal::Owner);
+    assert_eq!(changed(30, 2), Refusal::Wait);
     assert_eq!(step(&l1, 4, 1), Err(Refusal::Action));
     assert_eq!(solo_replay(&l1, 2, &[]), Err(Refusal::Member));
     assert_eq!(solo_replay(&l1, 0, &[2]), Err(Refusal::Others));
-    assert_eq!(solo_search(&l1, 0, &mut [0; 3], &mut [0; 3]), Err(Refusal::Full));
-    assert_eq!(solo_search(&l1, 0, &mut [0; 4], &mut [0; 3]), Err(Refusal::Short));
+    assert_eq!(solo_search(&l1, 0, &mut [0; 7], &mut [0; 3]), Err(Refusal::Full));
+    assert_eq!(solo_search(&l1, 0, &mut [0; 8], &mut [0; 3]), Err(Refusal::Short));
     assert_eq!(joint_replay(&l1, &[0, 1, 2, 3], &[2], &[]), Err(Refusal::Ends));
     assert_eq!(joint_replay(&l1, &[0, 2, 3], &[1, 3], &[]), Err(Refusal::NoSolution));
     assert_eq!(joint_replay(&l1, &[0, 1, 2, 3], &[2, 4], &[0, 1]), Err(Refusal::Pick));
-    assert_eq!(read(b"5,2,4,1,0\n"), Err(Refusal::Text));
+    assert_eq!(read(b"5,2,4,1,0,0,0,0,0\n"), Err(Refusal::Text));
 }
 
 #[test]
@@ -86,21 +91,60 @@ fn steps_and_plans() {
     assert_eq!(solo_replay(&l1, 0, &[0, 1]), Ok(SoloReplay::Solves));
     assert_eq!(solo_replay(&l1, 0, &[0, 0, 1]), Ok(SoloReplay::Breaks(1)));
     assert_eq!(solo_replay(&l1, 0, &[0]), Ok(SoloReplay::Short));
-    let (mut table, mut marks) = ([9; 5], [9; 5]);
+    let (mut table, mut marks) = ([9; 11], [9; 5]);
+    // A copy for each two words, and an odd word.
+    let copies = |table: &[u64; 11]| {
+        let pairs: Vec<[u64; 2]> = table.chunks_exact(2).map(|pair| [pair[0], pair[1]]).collect();
+        assert_eq!(table[10], 0, "the odd word");
+        pairs.into_iter().map(mask).collect::<Vec<Mask>>()
+    };
     assert_eq!(
         solo_search(&l1, 0, &mut table, &mut marks),
         Ok(SoloSearch { copies: 4, live: true, marked: 4 })
     );
-    assert_eq!((table, marks), ([1, 2, 5, 6, 0], [1, 1, 1, 1, 0]));
+    assert_eq!((copies(&table), marks), (vec![1, 2, 5, 6, 0], [1, 1, 1, 1, 0]));
     let none = SoloSearch { copies: 4, live: false, marked: 0 };
     assert_eq!(solo_search(&laws::l4(), 1, &mut table, &mut marks), Ok(none));
-    assert_eq!((table, marks), ([1, 8, 17, 24, 0], [0; 5]));
+    assert_eq!((copies(&table), marks), (vec![1, 8, 17, 24, 0], [0; 5]));
     let one = SoloSearch { copies: 2, live: true, marked: 1 };
     assert_eq!(solo_search(&laws::l8(), 0, &mut table, &mut marks), Ok(one));
-    assert_eq!((table, marks), ([1, 2, 0, 0, 0], [1, 0, 0, 0, 0]));
+    assert_eq!((copies(&table), marks), (vec![1, 2, 0, 0, 0], [1, 0, 0, 0, 0]));
     let mut out = [9; raw::SOLO_SEARCH_OUT - 1];
     assert_eq!(raw::solo_search(&[], 0, &mut table, &mut marks, &mut out), raw::SHORT);
     assert_eq!(out, [9; 2]);
+}
+
+/// A law of 128 facts: member 0 takes fact 64 away and adds fact 127, member 1 needs fact 64.
+#[test]
+fn facts_of_the_high_word() {
+    let [first, high, last] = [0, 64, 127].map(|fact| 1 << fact);
+    let law = of_rows(&[
+        [128, 2, 2, first | high, 0],
+        [0, last, 0, 0, 0],
+        [1, 0, 0, 0, 0],
+        [0, high, 0, last, high],
+        [1, first | high, 0, 0, 0],
+    ]);
+    assert_eq!(mask_words(first | last), [1, 1 << 63]);
+    assert_eq!(mask([1, 1 << 63]), first | last);
+    assert_eq!(step(&law, 0, first | high), Ok(Step::Go(first | last)));
+    assert_eq!(step(&law, 1, first | last), Ok(Step::Collision));
+    assert_eq!(step(&law, 1, Mask::MAX), Ok(Step::Go(Mask::MAX)));
+    let (plans, ends) = ([0, 1], [1, 2]);
+    let mut run = Run::start(&law).unwrap();
+    assert_eq!(run.shared(), first | high);
+    let ticket = Ticket { member: 0, change: 0 };
+    let asked = Asked { step: Step::Go(first | last), ticket };
+    assert_eq!(run.ask(&law, &plans, &ends, 0), Ok(asked));
+    assert_eq!(run.commit(&law, &plans, &ends, ticket), Ok(Picked::Go));
+    assert_eq!((run.shared(), run.change()), (first | last, 1));
+    assert_eq!(run.pick(&law, &plans, &ends, 1), Ok(Picked::Collision));
+    let replay = joint_replay(&law, &plans, &ends, &[0, 1]);
+    let told = Replay { outcome: Outcome::Collision, picks: 1, shared: first | last };
+    assert_eq!(replay, Ok(told));
+    let mut room = Room::new(2, 2, 4);
+    assert_eq!(verdict(&law, &mut room), Ok(Verdict::Collision { picks: 1 }));
+    assert_eq!(mask([room.local[2], room.local[3]]), first | last);
 }
 
 #[test]
@@ -274,8 +318,8 @@ fn a_law_in_pddl_is_read_and_written() {
     let read = |text: &[u8], waits: &[u8]| {
         let mut words = vec![7; raw::TEXT_WORDS];
         let records = pddl_read(text, waits, &mut words)?;
-        assert!(words[5 * records..].iter().all(|&word| word == 0));
-        words.truncate(5 * records);
+        assert!(words[raw::ROW_WORDS * records..].iter().all(|&word| word == 0));
+        words.truncate(raw::ROW_WORDS * records);
         Ok(words)
     };
     assert_eq!(read(text, waits), Ok(l1.clone()));
@@ -285,10 +329,10 @@ fn a_law_in_pddl_is_read_and_written() {
     assert_eq!(read(text, b"4,0"), Err(Refusal::Name));
     assert_eq!(read(&text.repeat(9), b""), Err(Refusal::Many));
     assert_eq!(read(text, b"0,4"), Err(Refusal::Wait));
-    let (mut words, mut out) = ([7; 34], [7]);
+    let (mut words, mut out) = ([7; 62], [7]);
     assert_eq!(raw::pddl_read(text, waits, &mut words, &mut out), raw::SHORT);
     assert_eq!(raw::pddl_read(text, b"x", &mut words, &mut []), raw::SHORT);
-    assert_eq!((words, out), ([7; 34], [7]));
-    assert_eq!(pddl_write(&l1[..34], &mut [], &mut []), Err(Refusal::Length));
+    assert_eq!((words, out), ([7; 62], [7]));
+    assert_eq!(pddl_write(&l1[..62], &mut [], &mut []), Err(Refusal::Length));
     assert_eq!(pddl_write(&l1, &mut [], &mut []), Err(Refusal::Short));
 }

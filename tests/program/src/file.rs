@@ -1,5 +1,6 @@
 //! The verdict file, and what has to stand in it.
 
+use reference::interface::MASK;
 use reference::paper::run::Outcome;
 use reference::paper::task::ROW;
 use reference::paper::text::{self, RECORDS};
@@ -13,12 +14,12 @@ pub const CONFIGURATIONS: usize = 8192;
 
 /// K: the rows of each of `members` members.
 pub fn copies_room(members: usize) -> usize {
-    LOCAL / members
+    LOCAL / (MASK * members)
 }
 
 /// C: the rows of the configuration table.
 pub fn configurations_room(members: usize) -> usize {
-    CONFIGURATIONS / (members + 1)
+    CONFIGURATIONS / (MASK * (members + 1))
 }
 
 /// A verdict file in parts.

@@ -1,7 +1,9 @@
 //! What the texts reached: each answer, each refusal, and sizes.
 
 use crate::file::{configurations_room, copies_room, Judged};
+use crate::texts::LONGEST;
 use reference::fast::{copies, Task};
+use reference::paper::task::ROW;
 use reference::paper::verdict::Class;
 use std::collections::{BTreeMap, BTreeSet};
 
@@ -32,15 +34,15 @@ const ANSWERS: [&str; 13] = [
     "refused 15",
 ];
 const SIZES: [(&str, u64); 9] = [
-    ("bytes", 28_090),
+    ("bytes", LONGEST),
     ("records", 265),
     ("number", u64::MAX),
-    ("facts", 64),
+    ("facts", 128),
     ("members", 8),
     ("actions", 256),
-    ("configurations", 4096),
-    ("plan steps", 1023),
-    ("picks", 1024),
+    ("configurations", 2048),
+    ("plan steps", 1022),
+    ("picks", 1023),
 ];
 const TABLES: [(&str, usize); 4] = [
     ("copies full", 1),
@@ -64,7 +66,7 @@ impl Reached {
         let Ok(task) = Task::check(&judged.task) else {
             return;
         };
-        self.size("records", judged.task.len() as u64 / 5);
+        self.size("records", (judged.task.len() / ROW) as u64);
         self.size("number", judged.task.iter().copied().max().unwrap_or(0));
         self.size("facts", judged.task[0]);
         self.size("members", judged.task[1]);

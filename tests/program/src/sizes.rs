@@ -3,6 +3,7 @@
 use crate::file::{configurations_room, copies_room};
 use reference::generate::families::widened;
 use reference::generate::Law;
+use reference::interface::FACTS;
 use reference::random::Random;
 use std::collections::BTreeSet;
 
@@ -13,7 +14,8 @@ pub enum Size {
     Configurations { members: usize, count: usize },
     /// So many local copies of one member; the others have one.
     Copies { members: usize, member: usize, count: usize },
-    /// A conflict of two members after 2^bits - 1 picks, by waiting or in a collision.
+    /// A conflict of two members after 2^bits - 1 picks, or one less where the table has no room
+    /// for all copies, by waiting or in a collision.
     Picks { bits: usize, waits: bool },
     /// The last member has no plan.
     Unsolvable { members: usize },
@@ -57,8 +59,8 @@ impl Size {
         };
         let (members, actions) = (law.goals.len(), law.actions.len());
         match random.below(10) {
-            0 if members > 1 => widened(random, law, 64, members, 256),
-            1..=4 => widened(random, law, 64, members, actions),
+            0 if members > 1 => widened(random, law, FACTS, members, 256),
+            1..=4 => widened(random, law, FACTS, members, actions),
             _ => law,
         }
     }
@@ -72,11 +74,11 @@ struct Register {
 }
 
 impl Register {
-    fn holds(self, number: usize) -> u64 {
+    fn holds(self, number: usize) -> u128 {
         (0..self.bits).fold(0, |mask, bit| mask | self.digit(bit, number >> bit & 1))
     }
 
-    fn digit(self, bit: usize, digit: usize) -> u64 {
+    fn digit(self, bit: usize, digit: usize) -> u128 {
         1 << (self.first + 2 * bit + digit)
     }
 }
@@ -95,7 +97,7 @@ fn configurations(members: usize, count: usize, waits: bool) -> Law {
     let cut = a * b - count;
     let one = Register { first: 2, bits: bits(a) };
     let other = Register { first: 2 + 2 * one.bits, bits: bits(b) };
-    let (mine, yours) = (1u64, 2u64);
+    let (mine, yours) = (1, 2);
     let mut law = Law {
         facts: other.first + 2 * other.bits,
         initial: one.holds(0) | other.holds(0) | mine | yours,
@@ -110,28 +112,35 @@ fn configurations(members: usize, count: usize, waits: bool) -> Law {
             let (here, there) = (register.holds(place - 1), register.holds(place));
             let (needs, takes) = if cut > 0 && place == shut { (needs, takes) } else { (0, 0) };
             let wait = if waits { needs } else { 0 };
-            law.actions.push([member as u64, here | needs, wait, there, (here & !there) | takes]);
+            law.actions.push([member as u128, here | needs, wait, there, (here & !there) | takes]);
         }
     }
     law
 }
 
-/// A member who walks along chains of its own, a chain for each prime factor of the count; where
-/// the count is one more than the table has room for, a last step after all of them.
+/// The most facts of the chains below.
+const FEW: usize = 80;
+
+/// A member who walks along chains of its own, a chain for each prime factor of the count, or of
+/// the next number below it whose chains have few facts; then as many last steps as there are
+/// copies left, each after all before it.
 fn copies(members: usize, member: usize, count: usize) -> Law {
-    let over = count > copies_room(members);
-    let lengths = factors(count - usize::from(over));
-    let mut law = Law { facts: 1, initial: 0, goals: vec![0; members], actions: Vec::new() };
-    for length in lengths {
+    let few = |number: &usize| factors(*number).iter().sum::<usize>() <= FEW;
+    let whole = (1..=count).rev().find(few).expect("1 has no factors");
+    let mut law = Law { facts: 1, initial: 1, goals: vec![0; members], actions: Vec::new() };
+    for length in factors(whole) {
         law.initial |= 1 << law.facts;
         for place in law.facts + 1..law.facts + length {
-            law.actions.push([member as u64, 1 << (place - 1), 0, 1 << place, 1 << (place - 1)]);
+            law.actions.push([member as u128, 1 << (place - 1), 0, 1 << place, 1 << (place - 1)]);
         }
         law.facts += length;
         law.goals[member] |= 1 << (law.facts - 1);
     }
-    if over {
-        law.actions.push([member as u64, law.goals[member], 0, 1, 0]);
+    let mut done = law.goals[member];
+    for _ in whole..count {
+        let last = 1 << law.facts;
+        law.actions.push([member as u128, done, 0, last, 0]);
+        (law.facts, done) = (law.facts + 1, done | last);
     }
     law
 }
@@ -148,15 +157,17 @@ fn factors(mut number: usize) -> Vec<usize> {
 }
 
 /// A member who counts to 2^bits - 1, with an action for each digit; another action, for its last
-/// step, takes away what the one action of the other needs.
+/// step, takes away what the one action of the other needs. It counts from 1 where the table has
+/// no room for one copy more.
 fn picks(bits: usize, waits: bool) -> Law {
     let register = Register { first: 1, bits };
     let last = (1 << bits) - 1;
+    let first = usize::from(last + 2 > copies_room(2));
     let mut law = Law {
         facts: 1 + 2 * bits,
-        initial: 1 | register.holds(0),
+        initial: 1 | register.holds(first),
         goals: vec![register.holds(last), 0],
-        actions: vec![[1, 1, u64::from(waits), 0, 0]],
+        actions: vec![[1, 1, u128::from(waits), 0, 0]],
     };
     for bit in 0..bits {
         let below = |digit| (0..bit).fold(0, |mask, low| mask | register.digit(low, digit));
@@ -172,19 +183,19 @@ fn picks(bits: usize, waits: bool) -> Law {
 fn unsolvable(members: usize) -> Law {
     let mut law = Law { facts: 2, initial: 0, goals: vec![1; members], actions: Vec::new() };
     law.goals[members - 1] = 2;
-    for member in 0..members as u64 {
+    for member in 0..members as u128 {
         law.actions.extend([[member, 0, 0, 1, 0], [member, 1, 0, 0, 1]]);
     }
     law
 }
 
-/// The law with the longest text: F = 64, 8 members, 256 actions, and full masks.
+/// The law with the longest text: F = 128, 8 members, 256 actions, and full masks.
 fn records() -> Law {
-    let action = |number: u64| [number % 8, u64::MAX, u64::MAX, u64::MAX, u64::MAX];
+    let full = u128::MAX;
     Law {
-        facts: 64,
-        initial: u64::MAX,
-        goals: vec![u64::MAX; 8],
-        actions: (0..256).map(action).collect(),
+        facts: FACTS,
+        initial: full,
+        goals: vec![full; 8],
+        actions: (0..256).map(|number| [number % 8, full, full, full, full]).collect(),
     }
 }

@@ -2,8 +2,12 @@
 
 use crate::sizes::{self, Size};
 use reference::generate::{damage, families, text};
+use reference::paper::task::ROW;
 use reference::paper::text::RECORDS;
 use reference::random::Random;
+
+/// The bytes of the longest text that can be read: each field of 20 digits, and what ends it.
+pub const LONGEST: u64 = (RECORDS * (ROW * 21 + 1)) as u64;
 
 /// The text with this number. The first ones are the same sizes for every seed.
 pub fn made(seed: u64, number: u64) -> Vec<u8> {
@@ -23,9 +27,11 @@ pub fn fixed() -> u64 {
 
 /// Texts at the edge of what is read.
 fn edges() -> Vec<Vec<u8>> {
-    let longest = (["18446744073709551615"; 5].join(",") + "\r\n").repeat(RECORDS);
-    let zeros = "0,0,0,0,0\r\n".repeat(RECORDS);
-    let l5 = "1,1,0,1,0\r\n0,1,0,0,0";
+    let longest = (["18446744073709551615"; ROW].join(",") + "\r\n").repeat(RECORDS);
+    let zero = ["0"; ROW].join(",");
+    let zeros = (zero.clone() + "\r\n").repeat(RECORDS);
+    let l5 = "1,1,0,1,0,0,0,0,0\r\n0,1,0,0,0,0,0,0,0";
+    let bytes = LONGEST as usize;
     [
         String::new(),
         "\r\n".into(),
@@ -37,16 +43,19 @@ fn edges() -> Vec<Vec<u8>> {
         longest.replacen("15,", "16,", 1),
         longest.repeat(5),
         zeros.clone(),
-        zeros.clone() + "0,0,0,0,0",
-        zeros.clone() + "0,0,0,0,0\r\n",
+        zeros.clone() + &zero,
+        zeros.clone() + &zero + "\r\n",
         zeros.repeat(9),
         l5.into(),
         l5.to_string() + "\r\n",
         l5.to_string() + "\r\n\r\n",
         l5.to_string() + "\r\n\0",
-        "7".repeat(28090),
-        ",".repeat(28090),
+        "7".repeat(bytes),
+        ",".repeat(bytes),
         "\r\n".repeat(300),
+        // As rows were before laws had 128 facts.
+        "1,1,0,1,0\r\n0,1,0,0,0".into(),
+        "1,1,0,1,0\r\n0,1,0,0,0\r\n".into(),
     ]
     .map(String::into_bytes)
     .into()

@@ -3,9 +3,9 @@
 
 use program::file::{configurations_room, copies_room, judge, File, Judged, CONFIGURATIONS, LOCAL};
 use program::reached::Reached;
-use program::texts::{fixed, made};
+use program::texts::{fixed, made, LONGEST};
 use reference::fast::{copies, Fast, Task};
-use reference::interface::{out_length, Interface};
+use reference::interface::{out_length, Interface, MASK, ROW, ROWS};
 use reference::paper::verdict::Class;
 use reference::wrong::{self, Wrong};
 use Broken::*;
@@ -24,6 +24,11 @@ enum Broken {
     LongTextCut,
     EmptyTextMalformed,
     NulEndsTheText,
+    FiveFieldsTaken,
+    WordsExchanged,
+    HighWordsLost,
+    HighWordsAsLow,
+    FactsTaken,
     // The answer.
     RefusalExchanged(u64, u64),
     CopiesFullRefused(usize),
@@ -47,7 +52,7 @@ enum Broken {
     NumberOff(u64),
 }
 
-const ALL: [Broken; 56] = [
+const ALL: [Broken; 62] = [
     LeadingZeroTaken,
     LineFeedTaken,
     LastLineEndAsked,
@@ -59,6 +64,11 @@ const ALL: [Broken; 56] = [
     LongTextCut,
     EmptyTextMalformed,
     NulEndsTheText,
+    FiveFieldsTaken,
+    WordsExchanged,
+    HighWordsLost,
+    HighWordsAsLow,
+    FactsTaken,
     RefusalExchanged(1, 2),
     RefusalExchanged(2, 1),
     RefusalExchanged(3, 4),
@@ -75,11 +85,12 @@ const ALL: [Broken; 56] = [
     ConfigurationsFullRefused(8),
     CopiesOverTaken(1),
     CopiesOverTaken(2),
+    CopiesOverTaken(5),
     CopiesOverTaken(7),
     CountOff(1),
     CountOff(64),
     CountOff(1024),
-    CountOff(4096),
+    CountOff(2048),
     UnsolvableOff(1),
     UnsolvableOff(7),
     ByteChanged,
@@ -88,7 +99,7 @@ const ALL: [Broken; 56] = [
     LineAfterTheEnd,
     PickLost(1),
     PickLost(256),
-    PickLost(1024),
+    PickLost(1023),
     PickOff(8),
     PickOff(64),
     PickAfterTheLast,
@@ -108,10 +119,10 @@ const ALL: [Broken; 56] = [
 
 /// The file of the fast twin, or of one that chooses another conflict.
 fn answer(by: &impl Interface, text: &[u8]) -> File {
-    let mut words = [0; 5 * 265];
+    let mut words = [0; ROW * ROWS];
     let mut out = [0; out_length::VERDICT];
     match by.read(text, &mut words, &mut out) {
-        0 => verdict(by, &words[..5 * out[0] as usize]),
+        0 => verdict(by, &words[..ROW * out[0] as usize]),
         refusal => File::short("refused", refusal),
     }
 }
@@ -149,6 +160,21 @@ fn verdict(by: &impl Interface, task: &[u64]) -> File {
     File::short(kind, number)
 }
 
+/// A text with other fields in its records, where each has so many.
+fn fields(text: &str, count: usize, change: impl Fn(usize, &mut Vec<&str>)) -> Vec<u8> {
+    let mut changed = String::new();
+    for (number, record) in text.split_inclusive("\r\n").enumerate() {
+        let plain = record.trim_end_matches("\r\n");
+        let mut fields: Vec<&str> = plain.split(',').collect();
+        if fields.len() != count {
+            return text.as_bytes().to_vec();
+        }
+        change(number, &mut fields);
+        changed += &(fields.join(",") + &record[plain.len()..]);
+    }
+    changed.into_bytes()
+}
+
 impl Broken {
     /// Its file for a text, of which the paper and the twin say this.
     fn file(self, text: &[u8], judged: &Judged, twin: &File) -> Vec<u8> {
@@ -183,9 +209,35 @@ impl Broken {
                 lines("\r\n").into_iter().take(265).collect::<Vec<_>>().join("\r\n").into_bytes()
             }
             RecordsRefused if lines("\r\n").len() == 265 => b"x".to_vec(),
-            LongTextCut => text[..text.len().min(28_090)].to_vec(),
+            LongTextCut => text[..text.len().min(LONGEST as usize)].to_vec(),
             EmptyTextMalformed if text.is_empty() => b"x".to_vec(),
             NulEndsTheText => text.split(|&byte| byte == 0).next().unwrap_or(text).to_vec(),
+            FiveFieldsTaken => fields(&plain, 5, |number, fields| {
+                let places = if number == 0 { [0, 1, 2, 3, 8] } else { [0, 1, 3, 5, 7] };
+                let mut wide = vec!["0"; ROW];
+                for (place, field) in places.into_iter().zip(fields.iter()) {
+                    wide[place] = field;
+                }
+                *fields = wide;
+            }),
+            WordsExchanged | HighWordsLost | HighWordsAsLow => {
+                fields(&plain, ROW, |number, fields| {
+                    let masks = if number == 0 { &mut fields[3..5] } else { &mut fields[1..] };
+                    for mask in masks.chunks_mut(MASK) {
+                        match self {
+                            WordsExchanged => mask.swap(0, 1),
+                            HighWordsAsLow if mask[0] == "0" => mask.swap(0, 1),
+                            HighWordsAsLow => {}
+                            _ => mask[1] = "0",
+                        }
+                    }
+                })
+            }
+            FactsTaken => fields(&plain, ROW, |number, fields| {
+                if number == 0 && fields[0] == "129" {
+                    fields[0] = "128";
+                }
+            }),
             _ => text.to_vec(),
         }
     }

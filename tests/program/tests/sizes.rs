@@ -1,6 +1,6 @@
 //! The laws of exact size have the sizes that they are made for.
 
-use program::file::judge;
+use program::file::{copies_room, judge};
 use program::sizes::{all, Size};
 use reference::fast::{copies, count_configurations, Copies, Task};
 use reference::generate::text::of_words;
@@ -34,14 +34,14 @@ fn each_law_has_its_size() {
             }
             Size::Picks { bits, .. } => {
                 let most = tables(&task)[0].rows.len();
-                assert_eq!(most, (1 << bits) + 1, "{size:?}");
+                assert_eq!(most, ((1 << bits) + 1).min(copies_room(2)), "{size:?}");
             }
             Size::Unsolvable { members } => {
                 let live: Vec<bool> =
                     tables(&task).iter().map(|table| table.live(task.initial)).collect();
                 assert_eq!(live.iter().position(|live| !live), Some(members - 1), "{size:?}");
             }
-            Size::Records => assert_eq!(words.len(), 5 * 265),
+            Size::Records => assert_eq!(words.len(), 9 * 265),
         }
     }
 }

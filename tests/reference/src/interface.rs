@@ -3,10 +3,30 @@
 /// The refusal of a slice shorter than asked, and of a change number too large.
 pub const TOO_SHORT: u64 = 14;
 
+/// The most facts of a task, and the words of a mask: bit f is bit f mod 64 of word f / 64.
+pub const FACTS: usize = 128;
+pub const MASK: usize = 2;
+
+/// Words of a row of a task: a number, then four masks.
+pub const ROW: usize = 1 + 4 * MASK;
+
+/// The most rows of a task: row 0, 8 goals, 256 actions.
+pub const ROWS: usize = 265;
+
 /// Words of a run: collided, eight places, the shared copy, the change number.
-pub const RUN: usize = 11;
+pub const RUN: usize = SHARED + MASK + 1;
 pub const SHARED: usize = 9;
-pub const CHANGE: usize = 10;
+pub const CHANGE: usize = SHARED + MASK;
+
+/// The words of a mask, low word first.
+pub fn mask_words(mask: u128) -> [u64; MASK] {
+    [mask as u64, (mask >> 64) as u64]
+}
+
+/// The mask of the first two words.
+pub fn mask_of(words: &[u64]) -> u128 {
+    u128::from(words[0]) | u128::from(words[1]) << 64
+}
 
 /// The last change number.
 pub const LAST: u32 = 4_294_967_295;
@@ -25,12 +45,12 @@ pub fn no_run(run: &[u64]) -> bool {
 
 /// How many numbers an answer writes to the front of `out`.
 pub mod out_length {
-    pub const STEP: usize = 2;
+    pub const STEP: usize = 1 + super::MASK;
     pub const SOLO_REPLAY: usize = 2;
     pub const SOLO_SEARCH: usize = 3;
-    pub const JOINT_REPLAY: usize = 4;
+    pub const JOINT_REPLAY: usize = 3 + super::MASK;
     pub const PICK: usize = 1;
-    pub const ASK: usize = 4;
+    pub const ASK: usize = 3 + super::MASK;
     pub const COMMIT: usize = 1;
     pub const VERDICT: usize = 3;
     pub const READ: usize = 1;

@@ -6,6 +6,7 @@
 //! * [`fast`]: masks and hash maps, the twin for benchmarks, which also stands in for the library.
 //! * [`interface`]: the operations as the C interface lends them, one trait.
 //! * [`generate`]: laws, plans, picks and texts from fixed seeds, valid and damaged.
+//! * [`law`]: a law in parts, and its layout in words.
 //! * [`laws`]: L1 to L12 of the paper.
 //! * [`wrong`]: verdicts that choose another conflict, which the tests have to find.
 #![forbid(unsafe_code)]
@@ -14,6 +15,7 @@ pub mod brute;
 pub mod fast;
 pub mod generate;
 pub mod interface;
+pub mod law;
 pub mod laws;
 pub mod paper;
 pub mod random;

@@ -20,6 +20,11 @@ impl Random {
         mixed ^ (mixed >> 31)
     }
 
+    /// Any mask.
+    pub fn mask(&mut self) -> u128 {
+        u128::from(self.word()) | u128::from(self.word()) << 64
+    }
+
     /// A number below `limit`, which is not 0.
     pub fn below(&mut self, limit: usize) -> usize {
         (self.word() % limit as u64) as usize

@@ -5,6 +5,7 @@ use crate::fast::verdict::{
     moved, verdict_by, Configuration, Kind, Lent, Listing, Manner, Next, Right, Shown, SHARED,
 };
 use crate::fast::{joint_replay, Copies, Task, Twin, DEAD};
+use crate::interface::mask_of;
 use std::collections::{HashMap, HashSet};
 
 /// The fast twin with another verdict.
@@ -60,7 +61,7 @@ wrong! {
     DeadNext {
         const DEAD_NEXT: bool = true;
 
-        fn complete(task: &Task, table: &Copies, member: usize, from: u64, plan: &mut Vec<u16>) {
+        fn complete(task: &Task, table: &Copies, member: usize, from: u128, plan: &mut Vec<u16>) {
             if table.live(from) {
                 table.complete(task, member, from, plan);
             }
@@ -164,7 +165,7 @@ wrong! {
     }
     /// A shortest completion, with the highest actions.
     HighestCompletion {
-        fn complete(task: &Task, table: &Copies, member: usize, from: u64, plan: &mut Vec<u16>) {
+        fn complete(task: &Task, table: &Copies, member: usize, from: u128, plan: &mut Vec<u16>) {
             let mut copy = from;
             for left in (0..table.distance_of(from)).rev() {
                 let closer = |&&number: &&u16| {
@@ -179,7 +180,7 @@ wrong! {
     }
     /// A shortest completion, with the highest action last.
     HighestLast {
-        fn complete(task: &Task, table: &Copies, member: usize, from: u64, plan: &mut Vec<u16>) {
+        fn complete(task: &Task, table: &Copies, member: usize, from: u128, plan: &mut Vec<u16>) {
             let begin = plan.len();
             table.complete(task, member, from, plan);
             if plan.len() > begin {
@@ -191,13 +192,13 @@ wrong! {
     }
     /// A completion by the lowest live steps, not a shortest.
     LowestSteps {
-        fn complete(task: &Task, table: &Copies, member: usize, from: u64, plan: &mut Vec<u16>) {
+        fn complete(task: &Task, table: &Copies, member: usize, from: u128, plan: &mut Vec<u16>) {
             lowest_steps(task, table, member, from, &mut HashSet::new(), plan);
         }
     }
     /// A step more after the goal, where there is one that keeps it.
     LongCompletion {
-        fn complete(task: &Task, table: &Copies, member: usize, from: u64, plan: &mut Vec<u16>) {
+        fn complete(task: &Task, table: &Copies, member: usize, from: u128, plan: &mut Vec<u16>) {
             let begin = plan.len();
             table.complete(task, member, from, plan);
             let copy = after(task, from, &plan[begin..]);
@@ -238,7 +239,7 @@ fn keep_if_all_reached(
 }
 
 /// The copy after some steps.
-fn after(task: &Task, from: u64, steps: &[u16]) -> u64 {
+fn after(task: &Task, from: u128, steps: &[u16]) -> u128 {
     steps.iter().fold(from, |copy, &number| task.actions[number as usize].apply(copy))
 }
 
@@ -280,8 +281,8 @@ fn lowest_steps(
     task: &Task,
     table: &Copies,
     member: usize,
-    copy: u64,
-    seen: &mut HashSet<u64>,
+    copy: u128,
+    seen: &mut HashSet<u128>,
     plan: &mut Vec<u16>,
 ) -> bool {
     if task.reached(member, copy) {
@@ -319,8 +320,9 @@ fn highest_missed(task: &[u64], lent: &mut Lent) -> Result<[u64; 3], u64> {
         return Ok(answer);
     };
     let (plans, ends, picks) = conflict(task, lent, answer);
-    let [.., shared] = joint_replay(task, plans, ends, picks)?;
-    let missed = |&member: &u64| task[5 * (1 + member as usize) + 1] & !shared != 0;
+    let shared = mask_of(&joint_replay(task, plans, ends, picks)?[3..]);
+    let goals = Task::check(task)?.goals;
+    let missed = |&member: &u64| goals[member as usize] & !shared != 0;
     Ok([4, (0..task[1]).rfind(missed).unwrap_or(0), done])
 }
 

@@ -1,8 +1,8 @@
 //! Asks and commits on one run: answers worked out by hand from the words of request F-4, and all
-//! lists of up to four calls on three laws at four change numbers.
+//! lists of up to four calls on four laws at four change numbers.
 
-use reference::fast::Fast;
-use reference::interface::{Interface, Ticket, CHANGE, LAST, RUN, SHARED};
+use reference::fast::{Fast, Task};
+use reference::interface::{out_length, Interface, Ticket, CHANGE, LAST, RUN, SHARED};
 use reference::laws::{l1, l2, l7};
 use reference::paper::interface as paper;
 
@@ -32,11 +32,11 @@ fn given(refusal: u64, out: &[u64]) -> Given {
 /// A call by both implementations, which agree on what it gives and on the run it leaves.
 fn call(law: &[u64], plans: &[u16], ends: &[u64], run: &mut [u64], call: Call) -> Given {
     let (mut plain, mut fast) = (run.to_vec(), run.to_vec());
-    let (mut one, mut other) = ([9; 4], [9; 4]);
+    let (mut one, mut other) = ([9; out_length::ASK], [9; out_length::ASK]);
     let (refusals, length) = match call {
         Ask(member) => {
             let plain = paper::ask(law, plans, ends, &plain, member, &mut one);
-            ([plain, Fast.ask(law, plans, ends, &mut fast, member, &mut other)], 4)
+            ([plain, Fast.ask(law, plans, ends, &mut fast, member, &mut other)], out_length::ASK)
         }
         Commit(member, change) => {
             let ticket = Ticket { member, change };
@@ -83,25 +83,25 @@ fn a_step_is_told_before_it_is_done() {
         &l1(),
         0,
         &[
-            (Ask(0), Ok(vec![0, 2, 0, 0])),
-            (Ask(1), Ok(vec![0, 8, 1, 0])),
+            (Ask(0), Ok(vec![0, 2, 0, 0, 0])),
+            (Ask(1), Ok(vec![0, 8, 0, 1, 0])),
             (Ask(2), Err(8)),
             (Commit(2, 5), Err(8)),
             (Commit(1, 1), Err(19)),
             (Commit(1, 0), Ok(vec![0])),
             (Commit(1, 0), Err(19)),
             (Commit(0, 0), Err(19)),
-            (Ask(0), Ok(vec![1, 0, 0, 1])),
+            (Ask(0), Ok(vec![1, 0, 0, 0, 1])),
             (Commit(0, 1), Err(13)),
             (Pick(1), Ok(vec![0])),
             (Ask(1), Err(13)),
             (Commit(1, 2), Err(13)),
             (Commit(1, 1), Err(19)),
-            (Ask(0), Ok(vec![0, 18, 0, 2])),
+            (Ask(0), Ok(vec![0, 18, 0, 0, 2])),
             (Commit(0, 2), Ok(vec![0])),
         ],
     );
-    assert_eq!(run, [0, 1, 2, 0, 0, 0, 0, 0, 0, 18, 3]);
+    assert_eq!(run, [0, 1, 2, 0, 0, 0, 0, 0, 0, 18, 0, 3]);
 }
 
 #[test]
@@ -111,7 +111,7 @@ fn a_collision_is_told_and_counts() {
         5,
         &[
             (Pick(0), Ok(vec![0])),
-            (Ask(1), Ok(vec![2, 0, 1, 6])),
+            (Ask(1), Ok(vec![2, 0, 0, 1, 6])),
             (Commit(1, 6), Ok(vec![1])),
             (Ask(0), Err(13)),
             (Commit(0, 7), Err(13)),
@@ -119,7 +119,31 @@ fn a_collision_is_told_and_counts() {
             (Pick(0), Err(13)),
         ],
     );
-    assert_eq!(run, [1, 1, 0, 0, 0, 0, 0, 0, 0, 2, 7]);
+    assert_eq!(run, [1, 1, 0, 0, 0, 0, 0, 0, 0, 2, 0, 7]);
+}
+
+/// L1 with every fact 64 higher, so that all its masks are high words.
+fn high_l1() -> Vec<u64> {
+    let law = Task::check(&l1()).expect("a law").law();
+    law.at(128, &[64, 65, 66, 67, 68]).words()
+}
+
+#[test]
+fn the_shared_copy_is_two_words() {
+    let run = gives(
+        &high_l1(),
+        0,
+        &[
+            (Ask(0), Ok(vec![0, 0, 2, 0, 0])),
+            (Commit(1, 0), Ok(vec![0])),
+            (Ask(0), Ok(vec![1, 0, 0, 0, 1])),
+            (Pick(0), Err(13)),
+            (Pick(1), Ok(vec![0])),
+            (Ask(0), Ok(vec![0, 0, 18, 0, 2])),
+            (Commit(0, 2), Ok(vec![0])),
+        ],
+    );
+    assert_eq!(run, [0, 1, 2, 0, 0, 0, 0, 0, 0, 0, 18, 3]);
 }
 
 #[test]
@@ -129,8 +153,8 @@ fn the_last_change_number_takes_no_pick() {
         LAST - 1,
         &[
             (Commit(0, LAST - 1), Ok(vec![0])),
-            (Ask(0), Ok(vec![0, 5, 0, u64::from(LAST)])),
-            (Ask(1), Ok(vec![1, 0, 1, u64::from(LAST)])),
+            (Ask(0), Ok(vec![0, 5, 0, 0, u64::from(LAST)])),
+            (Ask(1), Ok(vec![1, 0, 0, 1, u64::from(LAST)])),
             (Commit(0, LAST), Err(20)),
             (Commit(0, 0), Err(19)),
             (Commit(1, LAST), Err(13)),
@@ -210,8 +234,10 @@ fn all_lists(
         if let (Commit(member, _), Ok(answer)) = (this, &found) {
             let asked = call(law, plans, ends, &mut run.to_vec(), Ask(member));
             let asked = asked.expect("what is committed can be asked for");
-            let told = if asked[0] == 0 { [0, asked[1]] } else { [asked[0] / 2, run[SHARED]] };
-            assert_eq!([answer[0], after[SHARED]], told, "{this:?} on {run:?}");
+            let goes = asked[0] == 0;
+            let shared = if goes { &asked[1..3] } else { &run[SHARED..CHANGE] };
+            let told = (if goes { 0 } else { 1 }, shared);
+            assert_eq!((answer[0], &after[SHARED..CHANGE]), told, "{this:?} on {run:?}");
         }
         let counts = !matches!(this, Ask(_)) && found.is_ok();
         if counts {
@@ -228,7 +254,7 @@ fn all_lists(
 #[test]
 fn every_short_list_leaves_what_its_commits_leave() {
     let (long, short): ((&[u16], &[u64]), (&[u16], &[u64])) = ((&PLANS, &ENDS), (&[0, 1], &[1, 2]));
-    for (law, plans) in [(l1(), long), (l2(), long), (l7(), short)] {
+    for (law, plans) in [(l1(), long), (l2(), long), (l7(), short), (high_l1(), long)] {
         for change in [0, 1, LAST - 1, LAST] {
             let run = start(&law, change);
             let lists = all_lists(&law, plans, &run, &run, 4, &mut Vec::new());

@@ -2,6 +2,7 @@
 //! the task of its rows, with the actions grouped by member, and so gets the same verdict.
 
 use reference::fast::pddl::{read_by, Right};
+use reference::paper::task::ROW;
 use reference::paper::{pddl, text};
 use std::fs;
 use std::path::{Path, PathBuf};
@@ -32,7 +33,8 @@ fn laws_in_pddl_are_the_tasks_of_their_rows() {
         let file = |ending: &str| folder().join(format!("{law}{ending}"));
         let rows = text::words(&fs::read(file(".csv")).expect("its rows")).expect("a text");
         let waits = fs::read(file(".waits.csv")).unwrap_or_default();
-        let waited = rows[5 * (1 + rows[1] as usize)..].chunks(5).any(|row| row[2] != 0);
+        let front = ROW * (1 + rows[1] as usize);
+        let waited = rows[front..].chunks(ROW).any(|row| row[3..5] != [0, 0]);
         assert_eq!(
             file(".waits.csv").exists(),
             waited,
@@ -42,7 +44,7 @@ fn laws_in_pddl_are_the_tasks_of_their_rows() {
         let words = pddl::words(&text, &waits);
         assert_eq!(words, Ok(pddl::grouped(&rows)), "{law}");
         let mut quick = vec![7; rows.len()];
-        assert_eq!(read_by::<Right>(&text, &waits, &mut quick), Ok([rows.len() as u64 / 5]));
+        assert_eq!(read_by::<Right>(&text, &waits, &mut quick), Ok([(rows.len() / ROW) as u64]));
         assert_eq!(Ok(quick), words, "{law}");
         // Its actions stand grouped already, so that also the conflict's numbers are the same.
         assert_eq!(pddl::grouped(&rows), rows, "{law}");

@@ -1,8 +1,9 @@
 //! L1 to L12 of the paper, the programs that pass at first sight, and laws that tell the parts of
 //! request F-2 from each other. Conflicts were worked out by hand from the words.
 
-use reference::fast::Fast;
+use reference::fast::{Fast, Task};
 use reference::interface::Interface;
+use reference::law::{of_rows, old_rows};
 use reference::laws::*;
 use reference::paper::conflict::Conflict;
 use reference::paper::interface::verdict_numbers;
@@ -26,12 +27,12 @@ impl Slices {
     fn of_words(local: usize, configurations: usize) -> Slices {
         Slices {
             local: vec![7; local],
-            marks: vec![7; local],
+            marks: vec![7; local / 2],
             configurations: vec![7; configurations],
-            trail: vec![7; 2 * configurations],
-            plans: vec![7; configurations + local],
+            trail: vec![7; configurations],
+            plans: vec![7; (configurations + local) / 2],
             ends: vec![7; 8],
-            picks: vec![7; configurations],
+            picks: vec![7; configurations / 2],
         }
     }
 
@@ -79,10 +80,10 @@ fn fast(task: &[u64]) -> Result<[u64; 3], u64> {
 /// Both implementations give this conflict: numbers, a plan for each member, and picks. It replays
 /// to its numbers, and zeros come after it.
 fn gives(task: &[u64], numbers: [u64; 3], plans: &[&[u16]], picks: &[u8]) {
-    let mut plain = Slices::of_words(64, 128);
+    let mut plain = Slices::of_words(128, 256);
     let class = verdict(task, &mut plain.lent()).expect("a verdict");
     assert_eq!(verdict_numbers(&class), numbers);
-    let mut fast = Slices::of_words(64, 128);
+    let mut fast = Slices::of_words(128, 256);
     assert_eq!(fast.fast(task), Ok(numbers));
 
     let list = plans.concat();
@@ -101,9 +102,116 @@ fn gives(task: &[u64], numbers: [u64; 3], plans: &[&[u16]], picks: &[u8]) {
     assert_eq!([kind + 1, member, replay.done as u64], numbers);
 }
 
-fn replays(task: &[u64], plans: &[u16], ends: &[u64], picks: &[u8]) -> (Outcome, usize, u64) {
+fn replays(task: &[u64], plans: &[u16], ends: &[u64], picks: &[u8]) -> (Outcome, usize, [u64; 2]) {
     let replay = joint_replay(task, plans, ends, picks).unwrap();
-    (replay.outcome, replay.done, replay.shared.word())
+    (replay.outcome, replay.done, replay.shared.words())
+}
+
+/// L1 word for word.
+#[test]
+fn l1_has_rows_of_nine_words() {
+    let rows = [
+        [5, 2, 4, 1, 0, 0, 0, 0, 0],
+        [0, 5, 0, 0, 0, 0, 0, 0, 0],
+        [1, 17, 0, 0, 0, 0, 0, 0, 0],
+        [0, 1, 0, 1, 0, 2, 0, 1, 0],
+        [0, 2, 0, 0, 0, 5, 0, 2, 0],
+        [1, 1, 0, 1, 0, 8, 0, 1, 0],
+        [1, 8, 0, 0, 0, 17, 0, 8, 0],
+    ];
+    assert_eq!(l1(), rows.concat());
+}
+
+/// The rows of the time before, as words and as text.
+#[test]
+fn rows_of_five_words_are_refused() {
+    for law in valid() {
+        let old = old_rows(&law);
+        assert_eq!(old.len() / 5, law.len() / 9);
+        let refusal = paper::interface::task(&old);
+        assert!([1, 2].contains(&refusal), "{refusal} of {old:?}");
+        assert_eq!(Fast.task(&old), refusal);
+        let records: Vec<String> = old
+            .chunks(5)
+            .map(|row| row.iter().map(u64::to_string).collect::<Vec<_>>().join(","))
+            .collect();
+        let text = records.join("\r\n");
+        let (mut slow, mut quick) = (vec![7; 2385], vec![7; 2385]);
+        assert_eq!(paper::text::read(text.as_bytes(), &mut slow), Err(15));
+        assert_eq!(Fast.read(text.as_bytes(), &mut quick, &mut [0]), 15);
+        assert!(slow.iter().chain(&quick).all(|&word| word == 0));
+    }
+}
+
+/// Each number of facts up to 128, and none above; each zero of row 0 and of a goal row.
+#[test]
+fn the_task_check_has_nine_words_a_row() {
+    let both = |words: &[u64]| {
+        let refusal = paper::interface::task(words);
+        assert_eq!(Fast.task(words), refusal, "{words:?}");
+        refusal
+    };
+    let changed = |place: usize, word: u64| {
+        let mut words = l1();
+        words[place] = word;
+        both(&words)
+    };
+    for facts in 0..=300 {
+        let expected = match facts {
+            5..=128 => 0,
+            // Facts 3 and 4 are above F.
+            1..=4 => 4,
+            _ => 2,
+        };
+        assert_eq!(changed(0, facts), expected, "{facts} facts");
+    }
+    for place in 5..9 {
+        assert_eq!(changed(place, 1), 2, "word {place} of row 0");
+        assert_eq!(changed(place, 1 << 63), 2, "word {place} of row 0");
+    }
+    for place in 12..18 {
+        assert_eq!(changed(place, 1), 3, "word {} of a goal row", place - 9);
+    }
+    // A high word where F is 5, and one where F is 70.
+    for place in [4, 11, 29, 31, 33, 35] {
+        assert_eq!(changed(place, 1), 4, "a high word at {place}");
+    }
+    let mut words = l1();
+    words[0] = 70;
+    words[33] = 63;
+    assert_eq!(both(&words), 0);
+    words[33] = 64;
+    assert_eq!(both(&words), 4);
+    // Wait within pre, in the high word too.
+    words[33] = 0;
+    words[31] = 1;
+    assert_eq!(both(&words), 6);
+    words[29] = 1;
+    assert_eq!(both(&words), 0);
+    for length in [0, 1, 5, 8, 9, 62, 64, 72] {
+        let mut words = l1();
+        words.resize(length, 0);
+        assert_eq!(both(&words), 1, "{length} words");
+    }
+}
+
+/// L1 with its facts at any places of 128 gets the same verdict.
+#[test]
+fn the_verdict_does_not_depend_on_the_places_of_facts() {
+    let law = Task::check(&l1()).expect("a law").law();
+    for places in
+        [[64, 65, 66, 67, 68], [0, 64, 1, 65, 2], [63, 64, 62, 127, 0], [127, 1, 65, 2, 66]]
+    {
+        let words = law.at(128, &places).words();
+        assert_eq!(class(&words), Ok(Class::Robust(12)));
+        assert_eq!(fast(&words), Ok([0, 0, 12]));
+        for (local, configurations, answer) in
+            [(16, 72, Ok(12)), (16, 71, Err(9)), (15, 72, Err(9))]
+        {
+            let mut slices = Slices::of_words(local, configurations);
+            assert_eq!(verdict(&words, &mut slices.lent()), answer.map(Class::Robust));
+        }
+    }
 }
 
 #[test]
@@ -139,8 +247,8 @@ fn l5_and_l6_have_no_action() {
 #[test]
 fn l7_misses_in_one_order() {
     gives(&l7(), [4, 0, 2], &[&[0], &[1]], &[0, 1]);
-    assert_eq!(replays(&l7(), &[0, 1], &[1, 2], &[0, 1]), (Outcome::Missed(0), 2, 2));
-    assert_eq!(replays(&l7(), &[0, 1], &[1, 2], &[1, 0]), (Outcome::Success, 2, 3));
+    assert_eq!(replays(&l7(), &[0, 1], &[1, 2], &[0, 1]), (Outcome::Missed(0), 2, [2, 0]));
+    assert_eq!(replays(&l7(), &[0, 1], &[1, 2], &[1, 0]), (Outcome::Success, 2, [3, 0]));
     assert_eq!(class(&l7()), Ok(Class::NotRobust(5, Outcome::Missed(0), 2)));
 }
 
@@ -152,7 +260,7 @@ fn l8_is_robust() {
 
 #[test]
 fn l9_and_l10_are_the_edges_of_l1() {
-    let edges = [(8, 36, Ok(12)), (8, 35, Err(9)), (7, 36, Err(9)), (7, 35, Err(9))];
+    let edges = [(16, 72, Ok(12)), (16, 71, Err(9)), (15, 72, Err(9)), (15, 71, Err(9))];
     for (local, configurations, answer) in edges {
         let mut slices = Slices::of_words(local, configurations);
         assert_eq!(verdict(&l1(), &mut slices.lent()), answer.map(Class::Robust));
@@ -180,8 +288,8 @@ fn the_laws_as_text() {
     for law in valid() {
         let text = reference::generate::text::of_words(&law);
         assert_eq!(paper::text::words(text.as_bytes()), Some(law.clone()));
-        let mut words = vec![7; 1325];
-        assert_eq!(paper::text::read(text.as_bytes(), &mut words), Ok(law.len() / 5));
+        let mut words = vec![7; 2385];
+        assert_eq!(paper::text::read(text.as_bytes(), &mut words), Ok(law.len() / 9));
         assert_eq!(words[..law.len()], law);
     }
 }
@@ -193,7 +301,7 @@ fn conflicts_of_the_laws_are_as_asked() {
     for (law, outcome) in faults {
         let Ok(Class::NotRobust(listed, told, _)) = class(&law) else { panic!("a fault") };
         assert_eq!(told, outcome);
-        let mut slices = Slices::of_words(64, 128);
+        let mut slices = Slices::of_words(128, 256);
         let [_, _, done] = slices.fast(&law).unwrap();
         let conflict = Conflict {
             outcome,
@@ -221,12 +329,12 @@ fn a_collision_comes_before_a_deadlock() {
         [1, 2, 0, 8, 0],
         [0, 0, 0, 4, 3],
     ];
-    gives(&law.concat(), [2, 0, 1], &[&[2], &[1]], &[0, 1]);
+    gives(&of_rows(&law), [2, 0, 1], &[&[2], &[1]], &[0, 1]);
     // Without the colliding action it is the deadlock.
     let mut law = law.to_vec();
     law.remove(4);
     law[0][2] = 2;
-    gives(&law.concat(), [3, 0, 1], &[&[1], &[0]], &[0]);
+    gives(&of_rows(&law), [3, 0, 1], &[&[1], &[0]], &[0]);
 }
 
 /// After member 0's step actions 1 and 3 of member 2 collide, and action 2 of member 1.
@@ -242,7 +350,7 @@ fn the_lowest_colliding_action_is_told_of_all_members() {
         [1, 1, 0, 4, 0],
         [2, 1, 0, 8, 0],
     ];
-    gives(&law.concat(), [2, 0, 1], &[&[0], &[2], &[1]], &[0, 2]);
+    gives(&of_rows(&law), [2, 0, 1], &[&[0], &[2], &[1]], &[0, 2]);
 }
 
 /// After member 0's step members 1 and 2 can wait for fact 0. Member 1 has its goal and ends;
@@ -259,7 +367,7 @@ fn a_member_with_its_goal_ends_where_another_lacks_its_own() {
         [0, 0, 0, 2, 1],
         [2, 1, 1, 4, 0],
     ];
-    gives(&law.concat(), [3, 0, 1], &[&[2], &[], &[1]], &[0]);
+    gives(&of_rows(&law), [3, 0, 1], &[&[2], &[], &[1]], &[0]);
 }
 
 /// After member 0's step all have their goals, and members 1 and 2 can wait for fact 0. The lower
@@ -276,16 +384,16 @@ fn one_member_goes_on_where_all_have_their_goals() {
         [1, 0, 0, 4, 0],
         [0, 0, 0, 2, 1],
     ];
-    gives(&law.concat(), [3, 0, 1], &[&[3], &[1, 2], &[]], &[0]);
+    gives(&of_rows(&law), [3, 0, 1], &[&[3], &[1, 2], &[]], &[0]);
     // Member 2 misses its goal there too, and deadlock comes first.
     law[3][1] = 1;
-    gives(&law.concat(), [3, 0, 1], &[&[3], &[1, 2], &[]], &[0]);
+    gives(&of_rows(&law), [3, 0, 1], &[&[3], &[1, 2], &[]], &[0]);
     // Without the waiting actions it is missed, after the same pick.
     law[4][2] = 0;
     law[4][1] = 0;
     law[5][2] = 0;
     law[5][1] = 0;
-    gives(&law.concat(), [4, 2, 1], &[&[3], &[], &[]], &[0]);
+    gives(&of_rows(&law), [4, 2, 1], &[&[3], &[], &[]], &[0]);
 }
 
 /// Two orders of two steps lead to one row, which action 0 of member 1 and then action 1 of member
@@ -300,8 +408,8 @@ fn the_moves_that_first_listed_a_row_are_told() {
         [1, 0, 0, 4, 1],
         [0, 0, 0, 2, 0],
     ];
-    gives(&law.concat(), [4, 2, 2], &[&[1], &[0], &[]], &[1, 0]);
-    assert_eq!(replays(&law.concat(), &[1, 0], &[1, 2, 2], &[0, 1]).0, Outcome::Missed(2));
+    gives(&of_rows(&law), [4, 2, 2], &[&[1], &[0], &[]], &[1, 0]);
+    assert_eq!(replays(&of_rows(&law), &[1, 0], &[1, 2, 2], &[0, 1]).0, Outcome::Missed(2));
 }
 
 /// Member 1 collides by action 8. From there actions 3 6, 3 7 and 4 5 are shortest, and 1 2 5 is
@@ -322,7 +430,7 @@ fn the_lowest_shortest_completion_is_told() {
         [1, 32, 0, 8, 32],
         [1, 5, 0, 128, 4],
     ];
-    gives(&law.concat(), [2, 0, 1], &[&[0], &[8, 3, 6]], &[0, 1]);
+    gives(&of_rows(&law), [2, 0, 1], &[&[0], &[8, 3, 6]], &[0, 1]);
 }
 
 #[test]

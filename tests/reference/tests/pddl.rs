@@ -3,6 +3,8 @@
 
 use reference::fast::pddl::{read_by, texts, Right};
 use reference::generate::{pddl as generate, text::of_words};
+use reference::interface::{mask_of, ROW, ROWS};
+use reference::law::of_rows;
 use reference::laws;
 use reference::paper::pddl::{grouped, read, words, write};
 use reference::paper::task::check;
@@ -52,7 +54,7 @@ fn both(text: &[u8], waits: &[u8], room: usize) -> (Result<usize, u64>, Vec<u64>
 }
 
 fn refusal(text: &str, waits: &str) -> Result<usize, u64> {
-    let (said, words) = both(text.as_bytes(), waits.as_bytes(), 1325);
+    let (said, words) = both(text.as_bytes(), waits.as_bytes(), ROW * ROWS);
     if said.is_err() {
         assert!(words.iter().all(|&word| word == 0), "zeros after {said:?}");
     }
@@ -83,29 +85,38 @@ const SMALL: &str = "(define (domain d) (:predicates (f)))
 
 #[test]
 fn l1_reads_to_its_words() {
-    let (said, words) = both(L1.as_bytes(), L1_WAITS.as_bytes(), 36);
+    let (said, words) = both(L1.as_bytes(), L1_WAITS.as_bytes(), 64);
     assert_eq!(said, Ok(7));
-    assert_eq!((&words[..35], words[35]), (&laws::l1()[..], 0));
-    let (said, words) = both(L1.as_bytes(), b"", 35);
+    assert_eq!((&words[..63], words[63]), (&laws::l1()[..], 0));
+    let (said, words) = both(L1.as_bytes(), b"", 63);
     assert_eq!((said, words), (Ok(7), laws::l2()));
 }
 
 #[test]
 fn actions_count_on_from_member_to_member() {
-    assert_eq!(words(L1.as_bytes(), b"2,0").unwrap()[15 + 5 * 2 + 2], 1);
-    assert_eq!(words(L1.as_bytes(), b"2,0").unwrap()[15 + 2], 0);
-    assert_eq!(words(L1.as_bytes(), b"3,3").unwrap()[15 + 5 * 3 + 2], 8);
+    let wait = |waits: &str, action: usize| {
+        let words = words(L1.as_bytes(), waits.as_bytes()).unwrap();
+        mask_of(&words[ROW * (3 + action) + 3..])
+    };
+    assert_eq!(wait("2,0", 2), 1);
+    assert_eq!(wait("2,0", 0), 0);
+    assert_eq!(wait("3,3", 3), 8);
     assert_eq!(refusal(L1, "4,0"), Err(17));
 }
 
 #[test]
 fn a_condition_is_a_set() {
-    let goal = |condition: &str| words(with_condition(condition).as_bytes(), b"").unwrap()[6];
+    let goal = |condition: &str| {
+        mask_of(&words(with_condition(condition).as_bytes(), b"").unwrap()[ROW + 1..])
+    };
     assert_eq!(goal("(and)"), 0);
     assert_eq!(goal("(f)"), 1);
     assert_eq!(goal("(and (g))"), 2);
     assert_eq!(goal("(and (g) (f) (and (g) (and) (f)))"), 3);
-    let effect = |effect: &str| words(with_effect(effect).as_bytes(), b"").unwrap()[13..].to_vec();
+    let effect = |effect: &str| {
+        let words = words(with_effect(effect).as_bytes(), b"").unwrap();
+        [mask_of(&words[2 * ROW + 5..]), mask_of(&words[2 * ROW + 7..])]
+    };
     assert_eq!(effect("(f)"), [1, 0]);
     assert_eq!(effect("(not (f))"), [0, 1]);
     assert_eq!(effect("(and (not (f)) (and (f) (not (g)) (not (f))))"), [1, 3]);
@@ -138,7 +149,7 @@ fn a_comment_ends_at_the_lines_end_alone() {
     assert_eq!(refusal(&format!("{SMALL}; any (thing"), ""), Ok(2));
     assert_eq!(refusal(&format!("; any\r{SMALL}"), ""), Err(16));
     assert_eq!(refusal(&format!("; any\r\n{SMALL}"), ""), Ok(2));
-    let (said, _) = both(&[b";\xff\x00\r\n", SMALL.as_bytes()].concat(), b"", 10);
+    let (said, _) = both(&[b";\xff\x00\r\n", SMALL.as_bytes()].concat(), b"", 18);
     assert_eq!(said, Ok(2));
     assert_eq!(refusal(&SMALL.replace("define (domain", "define;x\n(domain"), ""), Ok(2));
     assert_eq!(refusal(&SMALL.replace("define", "def;x\nine"), ""), Err(16));
@@ -258,13 +269,13 @@ fn every_byte_outside_words_is_16() {
     for byte in 0..=255u8 {
         let text = [SMALL.as_bytes(), &[byte]].concat();
         let expected = if b" \t\r\n;".contains(&byte) { Ok(2) } else { Err(16) };
-        assert_eq!(both(&text, b"", 10).0, expected, "byte {byte}");
+        assert_eq!(both(&text, b"", 18).0, expected, "byte {byte}");
         // Within a name, letters, digits and the two signs make another name.
         let text = SMALL.replace("(f)", "(f@)").into_bytes();
         let text: Vec<u8> = text.iter().map(|&at| if at == b'@' { byte } else { at }).collect();
         let same = byte.is_ascii_alphanumeric() || b" \t\r\n-_".contains(&byte);
         let expected = if same { Ok(2) } else { Err(16) };
-        assert_eq!(both(&text, b"", 10).0, expected, "byte {byte} in a name");
+        assert_eq!(both(&text, b"", 18).0, expected, "byte {byte} in a name");
     }
 }
 
@@ -431,21 +442,39 @@ fn sized(facts: usize, members: usize, actions: usize) -> String {
 
 #[test]
 fn the_limits_of_a_task_are_18() {
-    assert_eq!(refusal(&sized(64, 8, 256), ""), Ok(265));
-    assert_eq!(refusal(&sized(65, 1, 0), ""), Err(18));
+    assert_eq!(refusal(&sized(128, 8, 256), ""), Ok(265));
+    assert_eq!(refusal(&sized(65, 1, 0), ""), Ok(2));
+    assert_eq!(refusal(&sized(129, 1, 0), ""), Err(18));
     assert_eq!(refusal(&sized(1, 9, 0), ""), Err(18));
     assert_eq!(refusal(&sized(1, 8, 257), ""), Err(18));
     assert_eq!(refusal(&sized(1, 1, 257), ""), Err(18));
     assert_eq!(refusal(&sized(0, 1, 0), ""), Err(2));
     assert_eq!(refusal(&sized(0, 9, 0), ""), Err(18));
     // Numbers are known by the text's counts, also past a limit.
-    assert_eq!(refusal(&sized(66, 1, 300), "299,65"), Err(18));
-    assert_eq!(refusal(&sized(66, 1, 300), "300,65"), Err(17));
-    assert_eq!(refusal(&sized(66, 1, 300), "299,66"), Err(17));
-    // Initial facts past 64 are told apart too.
-    let last = |holds: &str| sized(65, 1, 0).replace("(:init)", &format!("(:init{holds})"));
-    assert_eq!(refusal(&(last(" (f64)") + &last(" (f64)")), ""), Err(18));
-    assert_eq!(refusal(&(last(" (f64)") + &last("")), ""), Err(17));
+    assert_eq!(refusal(&sized(130, 1, 300), "299,129"), Err(18));
+    assert_eq!(refusal(&sized(130, 1, 300), "300,129"), Err(17));
+    assert_eq!(refusal(&sized(130, 1, 300), "299,130"), Err(17));
+    // Initial facts past 128 are told apart too.
+    let last = |holds: &str| sized(129, 1, 0).replace("(:init)", &format!("(:init{holds})"));
+    assert_eq!(refusal(&(last(" (f128)") + &last(" (f128)")), ""), Err(18));
+    assert_eq!(refusal(&(last(" (f128)") + &last("")), ""), Err(17));
+}
+
+/// The last of 64, 65 and 128 facts: its bit, in every mask of the task.
+#[test]
+fn facts_stand_in_two_words() {
+    for (facts, bit) in [(64, [1 << 63, 0]), (65, [0, 1]), (128, [0, 1 << 63])] {
+        let predicates: String = (0..facts).map(|fact| format!(" (f{fact})")).collect();
+        let last = format!("(f{})", facts - 1);
+        let action =
+            format!("(:action a :parameters () :precondition {last} :effect (not {last}))");
+        let text = law(&predicates, &action, &last, &last);
+        let (said, words) = both(text.as_bytes(), format!("0,{}", facts - 1).as_bytes(), 27);
+        assert_eq!(said, Ok(3), "{facts} facts");
+        assert_eq!(words[..5], [facts, 1, 1, bit[0], bit[1]]);
+        assert_eq!(words[9..12], [0, bit[0], bit[1]]);
+        assert_eq!(words[18..], [0, bit[0], bit[1], bit[0], bit[1], 0, 0, bit[0], bit[1]]);
+    }
 }
 
 #[test]
@@ -462,7 +491,7 @@ fn a_wait_is_a_precondition() {
 fn refusals_come_in_the_written_order() {
     let outside = "(";
     let unknown = law(" (f)", "", " (g)", "(f)");
-    let many = sized(65, 1, 1);
+    let many = sized(129, 1, 1);
     let wrong = SMALL.replace("(:predicates (f))", "(:predicates)").replace("(f)", "(and)");
     let wrong = wrong.replace("(:init (and))", "(:init)");
     // 15 before 16, 17, 18 and the task check.
@@ -475,7 +504,7 @@ fn refusals_come_in_the_written_order() {
     assert_eq!(refusal(&format!("{wrong}{outside}"), ""), Err(16));
     // 17 over all before 18, and before the task check.
     assert_eq!(refusal(&many, "9,9"), Err(17));
-    assert_eq!(refusal(&sized(65, 9, 257).replacen("(and))", "(g))", 1), ""), Err(17));
+    assert_eq!(refusal(&sized(129, 9, 257).replacen("(and))", "(g))", 1), ""), Err(17));
     assert_eq!(refusal(&wrong, "0,0"), Err(17));
     // 18 before the task check: too many members and no facts; a wait that is no precondition.
     assert_eq!(refusal(&sized(0, 9, 0), ""), Err(18));
@@ -492,7 +521,7 @@ fn refusals_come_in_the_written_order() {
         (L1, "0,4", 6),
         (L1, "", 14),
     ] {
-        for room in [0, 1, 9, 34] {
+        for room in [0, 1, 18, 62] {
             let (said, words) = both(text.as_bytes(), waits.as_bytes(), room);
             assert_eq!(said, Err(expected));
             let left = if expected == 14 { 7 } else { 0 };
@@ -503,21 +532,21 @@ fn refusals_come_in_the_written_order() {
 
 #[test]
 fn a_word_slice_shorter_than_the_task_is_14() {
-    for room in [0, 1, 5, 34] {
+    for room in [0, 1, 35, 62] {
         assert_eq!(both(L1.as_bytes(), b"", room), (Err(14), vec![7; room]));
     }
-    assert_eq!(both(L1.as_bytes(), b"", 35), (Ok(7), laws::l2()));
+    assert_eq!(both(L1.as_bytes(), b"", 63), (Ok(7), laws::l2()));
     let mut longer = laws::l2();
     longer.extend([0; 9]);
-    assert_eq!(both(L1.as_bytes(), b"", 44), (Ok(7), longer));
-    assert_eq!(both(SMALL.as_bytes(), b"", 10).0, Ok(2));
+    assert_eq!(both(L1.as_bytes(), b"", 72), (Ok(7), longer));
+    assert_eq!(both(SMALL.as_bytes(), b"", 18).0, Ok(2));
 }
 
 // ---- the writer
 
 #[test]
 fn the_writers_spelling() {
-    let law = [[2, 1, 1, 1, 0], [0, 2, 0, 0, 0], [0, 1, 1, 2, 1]].concat();
+    let law = of_rows(&[[2, 1, 1, 1, 0], [0, 2, 0, 0, 0], [0, 1, 1, 2, 1]]);
     let expected = "(define (domain member0)\n (:predicates (f0) (f1))\n (:action a0\n  \
         :parameters ()\n  :precondition (and (f0))\n  :effect (and (f1) (not (f0)))))\n\
         (define (problem member0)\n (:domain member0)\n (:init (f0))\n (:goal (and (f1))))\n";
@@ -536,21 +565,21 @@ fn written_and_read_back_it_is_the_grouped_task() {
         let [text, waits] = texts(&law).unwrap();
         assert_eq!(words(&text, &waits), Ok(grouped(&law)));
     }
-    // Actions of two members in turn; a fact that is added and deleted; all 64 facts.
+    // Actions of two members in turn; a fact that is added and deleted; all 128 facts.
     let rows = [
-        [64, 2, 4, u64::MAX, 0],
-        [0, 1 << 63, 0, 0, 0],
-        [1, u64::MAX, 0, 0, 0],
-        [1, u64::MAX, u64::MAX, u64::MAX, u64::MAX],
-        [0, 1, 0, 2, 2],
+        [128, 2, 4, u128::MAX, 0],
+        [0, 1 << 127, 0, 0, 0],
+        [1, u128::MAX, 0, 0, 0],
+        [1, u128::MAX, u128::MAX, u128::MAX, u128::MAX],
+        [0, 1, 0, 1 << 64, 1 << 64],
         [1, 0, 0, 0, 0],
         [0, 3, 2, 1, 3],
     ];
-    let task = rows.concat();
+    let task = of_rows(&rows);
     let [text, waits] = texts(&task).unwrap();
     let order = [rows[0], rows[1], rows[2], rows[4], rows[6], rows[3], rows[5]];
-    assert_eq!(words(&text, &waits), Ok(order.concat()));
-    assert_eq!(grouped(&task), order.concat());
+    assert_eq!(words(&text, &waits), Ok(of_rows(&order)));
+    assert_eq!(grouped(&task), of_rows(&order));
     assert!(waits.starts_with(b"1,1\r\n2,0\r\n"));
 }
 
@@ -564,8 +593,8 @@ fn the_writers_refusals_write_nothing() {
         (&l1, [lengths[0] - 1, lengths[1]], Err(14)),
         (&l1, [lengths[0], lengths[1] - 1], Err(14)),
         (&l1, [0, 0], Err(14)),
-        (&l1[..34], lengths, Err(1)),
-        (&l1[..34], [0, 0], Err(1)),
+        (&l1[..62], lengths, Err(1)),
+        (&l1[..62], [0, 0], Err(1)),
         (&laws::l12()[..], [0, 0], Err(6)),
     ] {
         let (mut text, mut waits) = (vec![7; lent[0]], vec![7; lent[1]]);
@@ -581,13 +610,13 @@ fn the_writers_refusals_write_nothing() {
 /// The longest texts of all tasks: everything that can be written is.
 #[test]
 fn no_task_needs_more_than_1_048_576_bytes() {
-    let mut rows = vec![[64, 8, 256, u64::MAX, 0]];
-    rows.extend((0..8).map(|member| [member, u64::MAX, 0, 0, 0]));
-    let full = u64::MAX;
+    let full = u128::MAX;
+    let mut rows = vec![[128, 8, 256, full, 0]];
+    rows.extend((0..8).map(|member| [member, full, 0, 0, 0]));
     rows.extend((0..256).map(|action| [action % 8, full, full, full, full]));
-    let [text, waits] = texts(&rows.concat()).unwrap();
-    assert_eq!((text.len(), waits.len()), (413_466, 121_472));
-    assert_eq!(words(&text, &waits), Ok(grouped(&rows.concat())));
+    let [text, waits] = texts(&of_rows(&rows)).unwrap();
+    assert_eq!((text.len(), waits.len()), (838_074, 252_672));
+    assert_eq!(words(&text, &waits), Ok(grouped(&of_rows(&rows))));
 }
 
 // ---- generated texts
@@ -607,8 +636,8 @@ fn spellings_read_to_the_same_task() {
         let spelling = generate::any_spelling(&mut random);
         let text = generate::spelled(&mut random, &generate::pieces(&draft), spelling);
         let waits = generate::waits(&mut random, &draft);
-        let (said, words) = both(&text, &waits, 1325);
-        assert_eq!(said, Ok(task.len() / 5), "case {case}: {}", of_words(&task));
+        let (said, words) = both(&text, &waits, ROW * ROWS);
+        assert_eq!(said, Ok(task.len() / ROW), "case {case}: {}", of_words(&task));
         assert_eq!(words[..task.len()], grouped(&task), "case {case}");
     }
 }

@@ -7,25 +7,28 @@ use reference::generate::sizes::{
     forest, odometer, odometer_past, then, tree, winder, zigzag, Back, Tree, Wants,
 };
 use reference::generate::Law;
-use reference::interface::{out_length, Interface};
+use reference::interface::{out_length, Interface, MASK};
+use reference::law::of_rows;
 use reference::laws::*;
 use reference::paper;
 
 /// Both implementations give these numbers and marks, in a table that is just long enough and in
-/// one with a row more.
+/// one with a row and an odd word more.
 fn gives(task: &[u64], member: u8, numbers: [u64; 3], live: &[u8]) {
     for free in 0..2 {
         let rows = live.len() + free;
         let marks = [live, &[0][..free]].concat();
-        let (mut table, mut plain) = (vec![7; rows], vec![7; rows]);
+        let words = MASK * rows + free;
+        let (mut table, mut plain) = (vec![7; words], vec![7; rows]);
         let mut out = [9; out_length::SOLO_SEARCH];
         let refusal = paper::interface::solo_search(task, member, &mut table, &mut plain, &mut out);
         assert_eq!((refusal, out, &plain), (0, numbers, &marks));
-        let (mut fast_table, mut fast_marks) = (vec![8; rows], vec![8; rows]);
+        let (mut fast_table, mut fast_marks) = (vec![8; words], vec![8; rows]);
         let mut out = [9; out_length::SOLO_SEARCH];
         let refusal = Fast.solo_search(task, member, &mut fast_table, &mut fast_marks, &mut out);
         assert_eq!((refusal, out, &fast_marks), (0, numbers, &marks));
         assert_eq!(table, fast_table);
+        assert!(table[MASK * live.len()..].iter().all(|&word| word == 0), "zeros after the rows");
     }
 }
 
@@ -45,10 +48,34 @@ fn numbers_of_the_papers_laws() {
     gives(&l8(), 1, [1, 1, 1], &[1]);
 }
 
+/// Rows differ in their high words alone, or in their low words alone; a table with an odd word
+/// holds half as many rows as it has words, and marks are asked for by rows.
+#[test]
+fn rows_are_two_words() {
+    let [low, high] = [0, 64].map(|fact| 1 << fact);
+    let law =
+        of_rows(&[[65, 1, 2, 0, 0], [0, high, 0, 0, 0], [0, 0, 0, high, 0], [0, 0, 0, low, 0]]);
+    gives(&law, 0, [4, 1, 4], &[1; 4]);
+    for (length, marked, refusal) in [(8, 4, 0), (9, 4, 0), (8, 3, 14), (7, 3, 9), (7, 2, 14)] {
+        let (mut table, mut marks, mut out) = (vec![7; length], vec![7; marked], [9; 3]);
+        let told = paper::interface::solo_search(&law, 0, &mut table, &mut marks, &mut out);
+        assert_eq!(told, refusal, "{length} words, {marked} marks");
+        let rows = [0, 0, 0, 1, 1, 0, 1, 1, 0];
+        match refusal {
+            0 => assert_eq!(table, rows[..length]),
+            9 => assert_eq!((table.clone(), marks.clone()), (vec![0; length], vec![0; marked])),
+            _ => assert_eq!((table.clone(), marks.clone()), (vec![7; length], vec![7; marked])),
+        }
+        let (mut quick, mut live, mut out) = (vec![7; length], vec![7; marked], [9; 3]);
+        assert_eq!(Fast.solo_search(&law, 0, &mut quick, &mut live, &mut out), refusal);
+        assert_eq!((quick, live), (table, marks));
+    }
+}
+
 /// Rows 1 and 3 have the goal, row 0 comes to it, and rows 2, 4 and 5 do not.
 #[test]
 fn live_rows_stand_between_dead_ones() {
-    let law = [
+    let law = of_rows(&[
         [6, 1, 5, 1, 0],
         [0, 2, 0, 0, 0],
         [0, 1, 0, 2, 1],
@@ -56,8 +83,8 @@ fn live_rows_stand_between_dead_ones() {
         [0, 2, 0, 8, 0],
         [0, 4, 0, 16, 4],
         [0, 8, 0, 32, 10],
-    ];
-    gives(&law.concat(), 0, [6, 1, 3], &[1, 1, 0, 1, 0, 0]);
+    ]);
+    gives(&law, 0, [6, 1, 3], &[1, 1, 0, 1, 0, 0]);
 }
 
 /// A refusal leaves `out`, and one of two numbers is too short before anything else.
@@ -66,7 +93,8 @@ fn refusals_leave_the_numbers() {
     for (task, rows, length, refusal) in
         [(l1(), 3, 3, 9), (l1(), 4, 2, 14), (Vec::new(), 4, 2, 14), (Vec::new(), 4, 3, 1)]
     {
-        let (mut table, mut marks, mut out) = (vec![7; rows], vec![7; rows], vec![9; length]);
+        let (mut table, mut marks) = (vec![7; MASK * rows], vec![7; rows]);
+        let mut out = vec![9; length];
         let told = paper::interface::solo_search(&task, 0, &mut table, &mut marks, &mut out);
         assert_eq!((told, &out), (refusal, &vec![9; length]));
         assert_eq!(Fast.solo_search(&task, 0, &mut table, &mut marks, &mut out), refusal);

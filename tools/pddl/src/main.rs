@@ -70,7 +70,8 @@ fn rows(law: &Path, file: Option<&Path>, crlf: bool) -> Result<(), Failure> {
         Failure::Refused(refusal, said.map_or_else(meaning, message))
     })?;
     let record = |row: &[u64]| row.iter().map(u64::to_string).collect::<Vec<_>>().join(",");
-    let told: String = words.chunks(5).take(records).map(|row| record(row) + "\r\n").collect();
+    let rows = words.chunks(raw::ROW_WORDS).take(records);
+    let told: String = rows.map(|row| record(row) + "\r\n").collect();
     print(told.as_bytes())
 }
 

@@ -6,7 +6,7 @@ use crate::waits::{Field, Wait};
 use std::collections::{HashMap, HashSet};
 
 /// The most facts, members and actions.
-const FACTS: usize = 64;
+const FACTS: usize = 128;
 const MEMBERS: usize = 8;
 const ACTIONS: usize = 256;
 

@@ -235,8 +235,9 @@ fn names_and_limits() {
         "f among them, which holds at first for the first member (line 9)",
     );
     let many = |count: usize| (0..count).map(|fact| format!("\n(x{fact})")).collect::<String>();
-    let message = said("(f) (g))", &format!("(f) (g){})", many(63)), "");
-    assert_eq!(message, (18, "LAW, line 65, column 2: x62: expected at most 64 predicates".into()));
+    let message = said("(f) (g))", &format!("(f) (g){})", many(127)), "");
+    let expected = "LAW, line 129, column 2: x126: expected at most 128 predicates";
+    assert_eq!(message, (18, expected.to_string()));
     let message = said(LAW, &LAW.repeat(9), "");
     assert_eq!(message, (18, "LAW, line 81, column 17: d: expected at most 8 members".into()));
     let action =
@@ -248,7 +249,7 @@ fn names_and_limits() {
         "(define (domain d) (:predicates)) (define (problem p) (:domain d) (:init) (:goal (and)))";
     let message = said(LAW, none, "");
     let expected =
-        "LAW, line 1, column 21: :predicates: expected a predicate: a law has 1 to 64 facts";
+        "LAW, line 1, column 21: :predicates: expected a predicate: a law has 1 to 128 facts";
     assert_eq!(message, (2, expected.to_string()));
 }
 

@@ -1,6 +1,6 @@
 -- `capi::lawcheck_joint_replay` meets its contract. Assumes nothing.
-use Rattle.capi.proofs.Calls.{joint-short, joint-refused, joint-given}
 use borrow.Author.Needs.{needs}
+use Rattle.capi.proofs.Calls.{joint-short, joint-refused, joint-given}
 use Rattle.capi.proofs.lawcheck_joint_replay.Statement.{statement}
 use Rattle.capi.proofs.lawcheck_joint_replay.Tie as tie
 
@@ -15,9 +15,6 @@ enum-known-s c = search needs
 
 enum-known-s-2 : tie.Need-enum-known-s-2
 enum-known-s-2 c = search needs
-
-to-word-requires : tie.Need-to-word-requires
-to-word-requires c κs = search needs
 
 replay-numbers-requires : tie.Need-replay-numbers-requires
 replay-numbers-requires c κs = search needs
@@ -45,7 +42,6 @@ lawcheck-joint-replay-spec =
     joint-replay-requires
     enum-known-s
     enum-known-s-2
-    to-word-requires
     replay-numbers-requires
     slice-aggregate-put
     put-requires

@@ -1,6 +1,6 @@
 -- `capi::lawcheck_step` meets its contract. Assumes nothing.
-use Rattle.capi.proofs.Calls.{step-shared, step-short, step-refused, step-given}
 use borrow.Author.Needs.{needs}
+use Rattle.capi.proofs.Calls.{step-shared, step-short, step-refused, step-given}
 use Rattle.capi.proofs.lawcheck_step.Statement.{statement}
 use Rattle.capi.proofs.lawcheck_step.Tie as tie
 
@@ -10,11 +10,8 @@ returns c = search step-shared
 returns-2 : tie.Need-returns-2
 returns-2 c = search step-short
 
-shared-slice-read-of-word : tie.Need-shared-slice-read-of-word
-shared-slice-read-of-word c = search needs
-
-of-word-requires : tie.Need-of-word-requires
-of-word-requires c κs = search needs
+load-requires : tie.Need-load-requires
+load-requires c κs = search needs
 
 step-requires : tie.Need-step-requires
 step-requires c κs = search needs
@@ -49,8 +46,7 @@ lawcheck-step-spec =
     (tie.spec
     returns
     returns-2
-    shared-slice-read-of-word
-    of-word-requires
+    load-requires
     step-requires
     enum-known-s
     enum-known-s-2

@@ -4,6 +4,15 @@ use Rattle.capi_numbers.proofs.Told.{success, collision, deadlock, miss
 use Rattle.capi_numbers.proofs.replay_numbers.Statement.{statement}
 use Rattle.capi_numbers.proofs.replay_numbers.Tie as tie
 
+words-requires : tie.Need-words-requires
+words-requires c κs = search needs
+
+array-read-low : tie.Need-array-read-low
+array-read-low c = search needs
+
+array-read-high : tie.Need-array-read-high
+array-read-high c = search needs
+
 enum-told : tie.Need-enum-told
 enum-told c = search needs
 
@@ -41,6 +50,9 @@ pub replay-numbers-spec : {M : Type 1} → statement M
 replay-numbers-spec =
     tie.close
     (tie.spec
+    words-requires
+    array-read-low
+    array-read-high
     enum-told
     enum-known-o
     enum-told-2

@@ -13,8 +13,14 @@ cast-n c = search needs
 enum-known-d : tie.Need-enum-known-d
 enum-known-d c = search needs
 
-to-word-requires : tie.Need-to-word-requires
-to-word-requires c κs = search needs
+words-requires : tie.Need-words-requires
+words-requires c κs = search needs
+
+array-read-t11 : tie.Need-array-read-t11
+array-read-t11 c = search needs
+
+array-read-t14 : tie.Need-array-read-t14
+array-read-t14 c = search needs
 
 enum-told : tie.Need-enum-told
 enum-told c = search needs
@@ -38,7 +44,9 @@ asked-numbers-spec =
     cast-j
     cast-n
     enum-known-d
-    to-word-requires
+    words-requires
+    array-read-t11
+    array-read-t14
     enum-told
     enum-told-2
     returns

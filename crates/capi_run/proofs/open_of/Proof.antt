@@ -4,35 +4,38 @@ use Rattle.capi_run.proofs.Told.{open-held}
 use Rattle.capi_run.proofs.open_of.Statement.{statement}
 use Rattle.capi_run.proofs.open_of.Tie as tie
 
-shared-slice-read-of-word : tie.Need-shared-slice-read-of-word
-shared-slice-read-of-word c = search needs
+shared-slice-read-of-words : tie.Need-shared-slice-read-of-words
+shared-slice-read-of-words c = search needs
 
-of-word-requires : tie.Need-of-word-requires
-of-word-requires c κs = search needs
+shared-slice-read-of-words-2 : tie.Need-shared-slice-read-of-words-2
+shared-slice-read-of-words-2 c = search needs
+
+of-words-requires : tie.Need-of-words-requires
+of-words-requires c κs = search needs
 
 shared-slice-read-closed-in : tie.Need-shared-slice-read-closed-in
 shared-slice-read-closed-in c = search needs
 
-shared-slice-read-t10 : tie.Need-shared-slice-read-t10
-shared-slice-read-t10 c = search needs
+shared-slice-read-t9 : tie.Need-shared-slice-read-t9
+shared-slice-read-t9 c = search needs
 
-shared-slice-read-t12 : tie.Need-shared-slice-read-t12
-shared-slice-read-t12 c = search needs
+shared-slice-read-t13 : tie.Need-shared-slice-read-t13
+shared-slice-read-t13 c = search needs
 
-shared-slice-read-t14 : tie.Need-shared-slice-read-t14
-shared-slice-read-t14 c = search needs
+shared-slice-read-t15 : tie.Need-shared-slice-read-t15
+shared-slice-read-t15 c = search needs
 
-shared-slice-read-t16 : tie.Need-shared-slice-read-t16
-shared-slice-read-t16 c = search needs
+shared-slice-read-t17 : tie.Need-shared-slice-read-t17
+shared-slice-read-t17 c = search needs
 
-shared-slice-read-t18 : tie.Need-shared-slice-read-t18
-shared-slice-read-t18 c = search needs
+shared-slice-read-t19 : tie.Need-shared-slice-read-t19
+shared-slice-read-t19 c = search needs
 
-shared-slice-read-t20 : tie.Need-shared-slice-read-t20
-shared-slice-read-t20 c = search needs
+shared-slice-read-t21 : tie.Need-shared-slice-read-t21
+shared-slice-read-t21 c = search needs
 
-shared-slice-read-t22 : tie.Need-shared-slice-read-t22
-shared-slice-read-t22 c = search needs
+shared-slice-read-t23 : tie.Need-shared-slice-read-t23
+shared-slice-read-t23 c = search needs
 
 shared-slice-read-closed-in-2 : tie.Need-shared-slice-read-closed-in-2
 shared-slice-read-closed-in-2 c = search needs
@@ -47,16 +50,17 @@ pub open-of-spec : {M : Type 1} → statement M
 open-of-spec =
     tie.close
     (tie.spec
-    shared-slice-read-of-word
-    of-word-requires
+    shared-slice-read-of-words
+    shared-slice-read-of-words-2
+    of-words-requires
     shared-slice-read-closed-in
-    shared-slice-read-t10
-    shared-slice-read-t12
-    shared-slice-read-t14
-    shared-slice-read-t16
-    shared-slice-read-t18
-    shared-slice-read-t20
-    shared-slice-read-t22
+    shared-slice-read-t9
+    shared-slice-read-t13
+    shared-slice-read-t15
+    shared-slice-read-t17
+    shared-slice-read-t19
+    shared-slice-read-t21
+    shared-slice-read-t23
     shared-slice-read-closed-in-2
     closed-in-requires
     returns)

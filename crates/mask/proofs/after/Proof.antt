@@ -1,17 +1,17 @@
--- `mask::after` meets its contract: the code is the definition, and what `s` and `del` have in common is within `s`.
--- Assumes nothing.
+-- `mask::after` meets its contract: word by word. Assumes nothing.
 use borrow.Author.Needs.{needs}
-use lib.Bits.{and-le-l}
-use Rattle.semantics.specs.Mask.{after}
+use Rattle.mask.proofs.Halves.{after-both}
 use Rattle.mask.proofs.after.Statement.{statement}
 use Rattle.mask.proofs.after.Tie as tie
 
-sub-rest : tie.Need-sub-rest
-sub-rest c = search and-le-l
+word-after-requires : tie.Need-word-after-requires
+word-after-requires c κs = search needs
+
+word-after-requires-2 : tie.Need-word-after-requires-2
+word-after-requires-2 c κs = search needs
 
 returns : tie.Need-returns
-unfolding after
-returns c = search needs
+returns c = search (needs, after-both)
 
 pub after-spec : {M : Type 1} → statement M
-after-spec = tie.close (tie.spec sub-rest returns)
+after-spec = tie.close (tie.spec word-after-requires word-after-requires-2 returns)

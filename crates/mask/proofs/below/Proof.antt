@@ -1,17 +1,23 @@
--- `mask::below` meets its contract: a shift by less than 64, and above that every word is below. Assumes nothing.
+-- `mask::below` meets its contract: from 64 facts on the high word tells, below that it is zero. Assumes nothing.
 use borrow.Author.Needs.{needs}
-use Rattle.mask.proofs.Shift.{shift-below, word-below}
+use Rattle.mask.proofs.Halves.{below-by-high, below-some, below-by-low}
 use Rattle.mask.proofs.below.Statement.{statement}
 use Rattle.mask.proofs.below.Tie as tie
 
-shr-result : tie.Need-shr-result
-shr-result c = search needs
+word-below-requires : tie.Need-word-below-requires
+word-below-requires c κs = search needs
+
+word-below-requires-2 : tie.Need-word-below-requires-2
+word-below-requires-2 c κs = search needs
 
 returns : tie.Need-returns
-returns c = search shift-below
+returns c = search (needs, below-by-high)
 
 returns-2 : tie.Need-returns-2
-returns-2 c = word-below (c .before .args .facts) (c .before .args .x .0) (c .if1 .left) (search needs)
+returns-2 c = search (needs, below-some)
+
+returns-3 : tie.Need-returns-3
+returns-3 c = search (needs, below-by-low)
 
 pub below-spec : {M : Type 1} → statement M
-below-spec = tie.close (tie.spec shr-result returns returns-2)
+below-spec = tie.close (tie.spec word-below-requires returns returns-2 word-below-requires-2 returns-3)

@@ -6,8 +6,8 @@ use Rattle.pddl.proofs.Building.{built-of}
 use Rattle.pddl.proofs.build.Statement.{statement}
 use Rattle.pddl.proofs.build.Tie as tie
 
-put-row-requires : tie.Need-put-row-requires
-put-row-requires c κs = search needs
+put-head-requires : tie.Need-put-head-requires
+put-head-requires c κs = search needs
 
 mul-first : tie.Need-mul-first
 mul-first c = search needs
@@ -48,7 +48,7 @@ pub build-spec : {M : Type 1} → statement M
 build-spec =
     tie.close
     (tie.spec
-    put-row-requires
+    put-head-requires
     mul-first
     store-requires
     add-from

@@ -48,16 +48,16 @@ build-requires c κs =
       (search needs, omega (arith, slice-aggregate-build-2 (c .before)), s .pre .1 .1),
     )
 
-add-t41 : tie.Need-add-t41
-add-t41 c =
+add-t42 : tie.Need-add-t42
+add-t42 c =
     let t2 : tie.Then2 = search in
     let o : tie.After-names-hold = search in
     let n : tie.After-count = search in
     let s : tie.Start = n .before .before .before .before .before .before .before .before in
     within-limits (n .count .result) (s .args .members) (o .names-hold .result .count) (t2 .if2 .taken) .members-fit
 
-add-t42 : tie.Need-add-t42
-add-t42 c =
+add-t43 : tie.Need-add-t43
+add-t43 c =
     let t2 : tie.Then2 = search in
     let o : tie.After-names-hold = search in
     let n : tie.After-count = search in
@@ -115,8 +115,8 @@ named-law-spec =
     slice-aggregate-build
     slice-aggregate-build-2
     build-requires
-    add-t41
     add-t42
+    add-t43
     same-length
     returns
     returns-2

@@ -6,11 +6,12 @@ use Prim.Native.Nat.{ℕ, _+_, _*_, _≤_}
 use lib.ListN.{length, take}
 use lib.Dec.{leb}
 use Rattle.semantics.specs.Base.{allOf, _if_, _else_}
-use Rattle.semantics.specs.Task.{check}
+use Rattle.semantics.specs.Task.{rowWidth, check}
 use Rattle.semantics.specs.Text.{records, isRecord, textWords}
 use Rattle.semantics.specs.Pddl.{membersOf, predicatesOf, initiallyOf, actionsOf, named, inLimits, wordsOf, isIn}
 use Rattle.semantics.specs.Pddl as Pddl
 use Rattle.semantics.specs.Pddl.{noneTwice, wellNamed, goalRows, actionRows}
+use Rattle.mask.specs.Number.{number}
 use Rattle.pddl_waits.specs.declared.Reading.{Reading}
 use Rattle.pddl_waits.specs.Inner.Waits.{WaitsIn}
 use Rattle.pddl_name.specs.Inner.Table.{namesIn}
@@ -19,12 +20,17 @@ use Rattle.pddl_formula.specs.Inner.Formula.{Ready}
 use Rattle.pddl_section.specs.declared.Member.{Member}
 use Rattle.pddl_section.specs.Inner.Section.{membersFrom}
 use Rattle.pddl_members.specs.Inner.Kept.{Kept}
-use Rattle.pddl_theory.specs.Inner.Appended.{row, Appended}
-use Rattle.pddl_words.specs.Inner.Built.{Rows}
+use Rattle.pddl_theory.specs.Inner.Limits.{mostFacts}
+use Rattle.pddl_theory.specs.Inner.Appended.{Appended}
+use Rattle.pddl_words.specs.Inner.Built.{headWords, Rows}
 use Rattle.pddl_acts.specs.declared.Own.{Own}
 use Rattle.pddl_named.specs.declared.Common.{Common}
 use Rattle.pddl_named.specs.Inner.Common.{CommonIn}
 use Rattle.pddl.specs.declared.Law.{Law}
+
+-- the words of the longest law: a row 0, eight goal rows, 256 rows of actions
+abbrev pub mostWords : ℕ
+mostWords = rowWidth * (1 + 8 + 256)
 
 -- the words of a law
 abbrev pub lawWords : List ℕ → List ℕ → List ℕ
@@ -48,7 +54,7 @@ pub record Begun (text spans : List ℕ) (more : ℕ) (places : List ℕ) (m : M
   pub the-initial : initiallyOf (membersFrom text 0) ≡ atomsFrom text (m .problem .initially)
   pub ready : Ready text spans
   pub whole : atomsFrom text (m .domain .predicates) ≡ namesIn text spans ++ atomsFrom text more
-  pub all : length (atomsFrom text (m .domain .predicates)) ≤ 64 → atomsFrom text more ≡ []
+  pub all : length (atomsFrom text (m .domain .predicates)) ≤ mostFacts → atomsFrom text more ≡ []
 
 -- what the members share is known
 pub record Naming (text spans places : List ℕ) (c : Common) (known : Bool) : Type 0 where
@@ -75,20 +81,21 @@ pub record NamedIn (text spans masks before goals₀ after goals : List ℕ) (r 
 -- the rows of a law, where those of goals and actions are the first words of tables
 abbrev pub rowsOf : Common → ℕ → ℕ → List ℕ → List ℕ → List ℕ
 rowsOf c members actions goals acts =
-    (row (c .facts) members actions (c .mask) 0 ++ take (5 * members) goals) ++ take (5 * actions) acts
+    (headWords (c .facts) members actions (number (c .mask)) ++ take (rowWidth * members) goals)
+    ++ take (rowWidth * actions) acts
 
 -- the rows stand at the front of the table, and this is what the task check says of them
 pub record BuiltOf (c : Common) (members actions : ℕ) (goals acts table : List ℕ) (refusal : ℕ) : Type 0 where
-  pub room : 5 * (1 + members + actions) ≤ length table
-  pub words : take (5 * (1 + members + actions)) table ≡ rowsOf c members actions goals acts
+  pub room : rowWidth * (1 + members + actions) ≤ length table
+  pub words : take (rowWidth * (1 + members + actions)) table ≡ rowsOf c members actions goals acts
   pub checked : refusal ≡ check (rowsOf c members actions goals acts)
 
 -- the first refusal; where there is none, the number of rows, and the rows at the front of the table
 pub record LawIn (text waits table : List ℕ) (r : Law) : Type 0 where
   pub refusal : r .refusal ≡ lawRefusal text waits
-  pub room : 5 * r .records ≤ length table
+  pub room : rowWidth * r .records ≤ length table
   pub number : r .refusal ≡ 0 → r .records ≡ 1 + length (membersOf text) + length (actionsOf (membersOf text))
-  pub words : r .refusal ≡ 0 → take (5 * r .records) table ≡ lawWords text waits
+  pub words : r .refusal ≡ 0 → take (rowWidth * r .records) table ≡ lawWords text waits
 
 -- the same for whichever waits were read so
 pub record LawFor (text : List ℕ) (w : Reading) (masks table : List ℕ) (r : Law) : Type 0 where

@@ -48,10 +48,10 @@ place-requires c κs = search needs
 add-count : tie.Need-add-count Inv-loop μ-loop
 add-count c =
     let n : tie.After-note Inv-loop μ-loop = search in
-    let s : tie.Start Inv-loop μ-loop = search in
-    let l : tie.At-loop Inv-loop μ-loop = search in
-    let b : tie.After-behind Inv-loop μ-loop = search in
-    let a : tie.After-action-at Inv-loop μ-loop = search in
+    let b : tie.After-behind Inv-loop μ-loop = n .before .before .before in
+    let a : tie.After-action-at Inv-loop μ-loop = b .before .before in
+    let l : tie.At-loop Inv-loop μ-loop = a .before in
+    let s : tie.Start Inv-loop μ-loop = l .before .before .before .before .before .before in
     record {
       fits = omega (
         arith,

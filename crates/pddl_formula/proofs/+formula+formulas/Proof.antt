@@ -19,6 +19,8 @@ use Rattle.pddl_formula.proofs.+formula+formulas.Lts-formulas as formul
 use Rattle.pddl_formula.proofs.literal.Reads as literal-reads
 use Rattle.pddl_formula.proofs.negation.Reads as negation-reads
 use Rattle.pddl_formula.proofs.outside.Reads as outside-reads
+use Rattle.pddl_words.proofs.none.Reads as none-reads
+use Rattle.pddl_words.proofs.union.Reads as union-reads
 use Rattle.pddl_name.proofs.same.Reads as same-reads
 use Rattle.pddl_token.proofs.next_token.Reads as next-token-reads
 use Rattle.pddl_formula.proofs.+formula+formulas.{statement}
@@ -62,10 +64,14 @@ formula-claims t = (
 
 abbrev formulas-claims : ℕ → formulas-lts.Claims
 formulas-claims t = (
+  none-reads.Asked,
+  none-reads.Learnt,
   next-token-reads.Asked,
   next-token-reads.Learnt,
   formula-below t,
   formula.Post,
+  union-reads.Asked,
+  union-reads.Learnt,
   outside-reads.Asked,
   outside-reads.Learnt,
 )
@@ -172,9 +178,17 @@ Inv-loop text spans more at negations allowed adds₀ dels₀ known₀ i₀ adds
 abbrev μ-loop : formulas-lts.MeasureT-loop
 μ-loop text spans more at negations allowed adds₀ dels₀ known₀ i₀ adds dels known i = length text - i
 
+formulas-none-requires : (t : ℕ)
+    → formulas-lts.Need-none-requires (formulas-claims t) (formulas-at t) formulas.Post Inv-loop μ-loop
+formulas-none-requires t c κs = search needs
+
+formulas-none-requires-2 : (t : ℕ)
+    → formulas-lts.Need-none-requires-2 (formulas-claims t) (formulas-at t) formulas.Post Inv-loop μ-loop
+formulas-none-requires-2 t c κs = search needs
+
 formulas-loop-holds : (t : ℕ)
     → formulas-lts.Need-loop-holds (formulas-claims t) (formulas-at t) formulas.Post Inv-loop μ-loop
-formulas-loop-holds t c = search list-begin
+formulas-loop-holds t c = search (needs, list-begin)
 
 formulas-next-token-requires : (t : ℕ)
     → formulas-lts.Need-next-token-requires (formulas-claims t) (formulas-at t) formulas.Post Inv-loop μ-loop
@@ -191,6 +205,14 @@ formulas-formula-requires t c κs = search needs
 formulas-enum-known-behind : (t : ℕ)
     → formulas-lts.Need-enum-known-behind (formulas-claims t) (formulas-at t) formulas.Post Inv-loop μ-loop
 formulas-enum-known-behind t c = search needs
+
+formulas-union-requires : (t : ℕ)
+    → formulas-lts.Need-union-requires (formulas-claims t) (formulas-at t) formulas.Post Inv-loop μ-loop
+formulas-union-requires t c κs = search needs
+
+formulas-union-requires-2 : (t : ℕ)
+    → formulas-lts.Need-union-requires-2 (formulas-claims t) (formulas-at t) formulas.Post Inv-loop μ-loop
+formulas-union-requires-2 t c κs = search needs
 
 formulas-loop-less : (t : ℕ)
     → formulas-lts.Need-loop-less (formulas-claims t) (formulas-at t) formulas.Post Inv-loop μ-loop
@@ -296,11 +318,15 @@ pub +formula+formulas-spec : {M : Type 1} → statement M
     formulas.Post
     Inv-loop
     μ-loop
+    (formulas-none-requires t)
+    (formulas-none-requires-2 t)
     (formulas-loop-holds t)
     (formulas-next-token-requires t)
     (formulas-enum-known-t t)
     (formulas-formula-requires t)
     (formulas-enum-known-behind t)
+    (formulas-union-requires t)
+    (formulas-union-requires-2 t)
     (formulas-loop-less t)
     (formulas-loop-again t)
     (formulas-enum-told t)

@@ -10,11 +10,14 @@ lookup-requires c κs = search needs
 enum-known-f : tie.Need-enum-known-f
 enum-known-f c = search needs
 
-bit-requires : tie.Need-bit-requires
-bit-requires c κs = search (needs, fact-few)
+fact-requires : tie.Need-fact-requires
+fact-requires c κs = search (needs, fact-few)
 
 enum-told : tie.Need-enum-told
 enum-told c = search needs
+
+none-requires : tie.Need-none-requires
+none-requires c κs = search needs
 
 stands-requires : tie.Need-stands-requires
 stands-requires c κs = search needs
@@ -31,8 +34,9 @@ fact-of-spec =
     (tie.spec
     lookup-requires
     enum-known-f
-    bit-requires
+    fact-requires
     enum-told
+    none-requires
     stands-requires
     returns
     returns-2)

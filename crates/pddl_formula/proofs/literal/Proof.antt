@@ -16,6 +16,9 @@ enum-known-closed c = search needs
 fact-of-requires : tie.Need-fact-of-requires
 fact-of-requires c κs = search needs
 
+none-requires : tie.Need-none-requires
+none-requires c κs = search needs
+
 enum-told : tie.Need-enum-told
 enum-told c = search needs
 
@@ -42,6 +45,7 @@ literal-spec =
     close-at-requires
     enum-known-closed
     fact-of-requires
+    none-requires
     enum-told
     outside-requires
     outside-requires-2

@@ -16,6 +16,9 @@ enum-known-closed c = search needs
 fact-of-requires : tie.Need-fact-of-requires
 fact-of-requires c κs = search needs
 
+none-requires : tie.Need-none-requires
+none-requires c κs = search needs
+
 enum-told : tie.Need-enum-told
 enum-told c = search needs
 
@@ -36,6 +39,7 @@ negation-spec =
     close-at-requires
     enum-known-closed
     fact-of-requires
+    none-requires
     enum-told
     outside-requires
     returns

@@ -8,6 +8,8 @@ use Rattle.semantics.specs.Pddl as Pddl
 use Rattle.semantics.specs.Pddl.{Token, opening, closing, word}
 use Rattle.semantics.specs.Pddl.{Parsed, parsed, _then_, many, expect}
 use Rattle.semantics.specs.Pddl.{Literal, literal, known, isIn, bitFrom, maskOf, factsOf, depth}
+use Rattle.mask.specs.Number.{number}
+use Rattle.pddl_theory.specs.Inner.Limits.{mostFacts}
 use Rattle.pddl_theory.specs.Inner.Place.{rest, span, leaves, items}
 use Rattle.pddl_name.specs.Inner.Table.{namesIn, Spans}
 use Rattle.pddl_form.specs.declared.Place.{Place}
@@ -16,18 +18,21 @@ use Rattle.pddl_form.specs.Inner.Place.{left, atomsFrom, Behind}
 use Rattle.pddl_formula.specs.declared.Literals.{Literals}
 use Rattle.pddl_formula.specs.declared.Fact.{Fact}
 
--- the table's offsets lie in the text, and it has at most 64 names
+-- the table's offsets lie in the text, and it has at most 128 names
 pub record Ready (text spans : List ℕ) : Type 0 where
   pub spans-in : Spans (length text) spans
-  pub few : length (namesIn text spans) ≤ 64
+  pub few : length (namesIn text spans) ≤ mostFacts
 
 -- outside the subset there are no literals
-abbrev pub nothing : Literals
-nothing = record { adds = 0; dels = 0; known = true; place = Outside }
+pub record Nothing (r : Literals) : Type 0 where
+  pub no-adds : number (r .adds) ≡ 0
+  pub no-dels : number (r .dels) ≡ 0
+  pub all-known : r .known ≡ true
+  pub no-place : r .place ≡ Outside
 
 -- the word s..e as a fact: its bit in the table, and whether it is a name of the table or an atom from `more` on
 pub record FactOf (text spans : List ℕ) (more s e : ℕ) (r : Fact) : Type 0 where
-  pub bit : r .bit ≡ bitFrom 1 (namesIn text spans) (span text s e)
+  pub bit : number (r .bit) ≡ bitFrom 1 (namesIn text spans) (span text s e)
   pub names : r .known ≡ isIn (namesIn text spans ++ atomsFrom text more) (span text s e)
 
 -- what an answer says of the literals that are read, where the table has the first names and the atoms from `more` on
@@ -36,8 +41,8 @@ pub record Means (text spans : List ℕ) (more : ℕ) (p : Place) (reading : Par
     : Type 0 where
   pub place : left text (r .place) ≡ leaves reading
   pub onward : Behind (length text) p (r .place)
-  pub adds : r .adds ≡ maskOf (namesIn text spans) (factsOf false (items reading))
-  pub dels : r .dels ≡ maskOf (namesIn text spans) (factsOf true (items reading))
+  pub adds : number (r .adds) ≡ maskOf (namesIn text spans) (factsOf false (items reading))
+  pub dels : number (r .dels) ≡ maskOf (namesIn text spans) (factsOf true (items reading))
   pub names : r .known ≡ known (namesIn text spans ++ atomsFrom text more) (items reading)
 
 -- behind `(not`

@@ -2,16 +2,17 @@
 use borrow.Author.Needs.{needs}
 use native.Mathlib.Omega.{arith}
 use Prim.Native.Nat.{_-_}
+use Rattle.pddl_theory.specs.Inner.Limits.{mostFacts}
 use Rattle.pddl_form.specs.Inner.Place.{atomsFrom}
 use Rattle.pddl_list.proofs.Filling.{Filling, filling-begin, filling-room, filling-on, filling-out, filling-end}
 use Rattle.pddl_list.proofs.fill.Statement.{statement}
 use Rattle.pddl_list.proofs.fill.Tie as tie
 
 abbrev Inv-loop : tie.InvT-loop
-Inv-loop text at spans₀ n₀ i₀ spans n i = Filling 64 (atomsFrom text) text at spans₀ spans n i
+Inv-loop text at spans₀ n₀ i₀ spans n i = Filling mostFacts (atomsFrom text) text at spans₀ spans n i
 
 abbrev μ-loop : tie.MeasureT-loop
-μ-loop text at spans₀ n₀ i₀ spans n i = 64 - n
+μ-loop text at spans₀ n₀ i₀ spans n i = mostFacts - n
 
 loop-holds : tie.Need-loop-holds Inv-loop μ-loop
 loop-holds c = search filling-begin

@@ -8,16 +8,17 @@ use Rattle.pddl_named.proofs.Gathering.{Gathering, gathering-begin, gat
 use Rattle.pddl_named.proofs.facts_from.Statement.{statement}
 use Rattle.pddl_named.proofs.facts_from.Tie as tie
 
--- `pddl_named::facts_from` meets its contract.
-
 abbrev Inv-loop : tie.InvT-loop
 Inv-loop text spans more at mask₀ known₀ i₀ mask known i = Gathering text spans more at mask known i
 
 abbrev μ-loop : tie.MeasureT-loop
 μ-loop text spans more at mask₀ known₀ i₀ mask known i = length text - i
 
+none-requires : tie.Need-none-requires Inv-loop μ-loop
+none-requires c κs = search needs
+
 loop-holds : tie.Need-loop-holds Inv-loop μ-loop
-loop-holds c = search gathering-begin
+loop-holds c = search (needs, gathering-begin)
 
 atom-at-requires : tie.Need-atom-at-requires Inv-loop μ-loop
 atom-at-requires c κs = search needs
@@ -27,6 +28,9 @@ enum-known-behind c = search needs
 
 fact-of-requires : tie.Need-fact-of-requires Inv-loop μ-loop
 fact-of-requires c κs = search needs
+
+union-requires : tie.Need-union-requires Inv-loop μ-loop
+union-requires c κs = search needs
 
 loop-less : tie.Need-loop-less Inv-loop μ-loop
 loop-less c =
@@ -49,10 +53,12 @@ facts-from-spec =
     (tie.spec
     Inv-loop
     μ-loop
+    none-requires
     loop-holds
     atom-at-requires
     enum-known-behind
     fact-of-requires
+    union-requires
     loop-less
     loop-again
     enum-told

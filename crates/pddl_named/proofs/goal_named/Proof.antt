@@ -10,6 +10,9 @@ formula-at-requires c κs = search needs
 mul-at : tie.Need-mul-at
 mul-at c = search needs
 
+none-requires : tie.Need-none-requires
+none-requires c κs = search needs
+
 put-row-requires : tie.Need-put-row-requires
 put-row-requires c κs = search needs
 
@@ -24,4 +27,12 @@ returns-2 c = search (needs, goal-full)
 
 pub goal-named-spec : {M : Type 1} → statement M
 goal-named-spec =
-    tie.close (tie.spec formula-at-requires mul-at put-row-requires same-length returns returns-2)
+    tie.close
+    (tie.spec
+    formula-at-requires
+    mul-at
+    none-requires
+    put-row-requires
+    same-length
+    returns
+    returns-2)

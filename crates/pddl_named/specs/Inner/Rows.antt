@@ -5,8 +5,10 @@ use mathlib.Core.List.{List, _++_}
 use Prim.Native.Nat.{ℕ, _*_, _≤_, _<_}
 use lib.ListN.{length}
 use Rattle.semantics.specs.Base.{allOf}
+use Rattle.semantics.specs.Words.{rowWords}
+use Rattle.semantics.specs.Task.{rowWidth}
 use Rattle.semantics.specs.Pddl.{wellNamed, actionsOf, actionRows, goalRows, maskOf, factsOf, known}
-use Rattle.pddl_theory.specs.Inner.Appended.{row, Appended}
+use Rattle.pddl_theory.specs.Inner.Appended.{Appended}
 use Rattle.pddl_name.specs.Inner.Table.{namesIn}
 use Rattle.pddl_form.specs.declared.Place.{Place}
 use Rattle.pddl_form.specs.Inner.Place.{atomsFrom}
@@ -23,8 +25,8 @@ pub record GoalIn (text spans : List ℕ) (more : ℕ) (goal : Place) (before : 
     (r : Bool) : Type 0 where
   pub names : r ≡ known (namesIn text spans ++ atomsFrom text more) (literalsAt text false goal)
   pub stored : owner < 8
-      → Appended before (5 * owner)
-      (row owner (maskOf (namesIn text spans) (factsOf false (literalsAt text false goal))) 0 0 0) after
+      → Appended before (rowWidth * owner)
+      (rowWords owner (maskOf (namesIn text spans) (factsOf false (literalsAt text false goal))) 0 0 0) after
 
 -- a member: its actions, whether it is well named, its actions' rows and its goal row
 pub record MemberIn (text spans : List ℕ) (c : Common) (m : Member) (masks before goals₀ : List ℕ) (owner first : ℕ)

@@ -36,13 +36,13 @@ close-at-requires c κs = search needs
 
 returns : tie.Need-returns
 returns c =
-    let a : tie.After-expect = search in
-    let w : tie.After-name-at = search in
-    let b : tie.After-expect2 = search in
-    let f : tie.After-formula-at = search in
-    let d : tie.After-expect3 = search in
-    let g : tie.After-formula-at2 = search in
     let z : tie.After-close-at = search in
+    let g : tie.After-formula-at2 = z .before .before .before in
+    let d : tie.After-expect3 = g .before in
+    let f : tie.After-formula-at = d .before .before .before in
+    let b : tie.After-expect2 = f .before in
+    let w : tie.After-name-at = b .before .before in
+    let a : tie.After-expect = w .before in
     an-action-masked _ _ _ _ _ _ _ _ _ _ _ (a .expect .ensures) (w .name-at .ensures) (b .expect2 .ensures)
     (f .formula-at .ensures) (d .expect3 .ensures) (g .formula-at2 .ensures) (z .close-at .ensures)
 

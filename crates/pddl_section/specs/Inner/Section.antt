@@ -7,6 +7,7 @@ use lib.ListN.{length}
 use Rattle.semantics.specs.Pddl as Pddl
 use Rattle.semantics.specs.Pddl.{parsed, _then_, many, formula, depth, Literal}
 use Rattle.semantics.specs.Pddl.{maskOf, factsOf, knownAction}
+use Rattle.mask.specs.Number.{number}
 use Rattle.pddl_theory.specs.Inner.Place.{rest, span, leaves, items}
 use Rattle.pddl_name.specs.Inner.Table.{namesIn}
 use Rattle.pddl_form.specs.declared.Place.{Place}
@@ -42,9 +43,9 @@ pub record Acts (text : List ℕ) (p : Place) (r : Act) : Type 0 where
 
 -- its facts as masks over a table of names; they are known where they are names of the table or atoms from `more` on
 pub record Masked (text spans : List ℕ) (more : ℕ) (r : Act) : Type 0 where
-  pub needs : r .needs ≡ maskOf (namesIn text spans) (factsOf false (literalsAt text false (r .precondition)))
-  pub adds : r .adds ≡ maskOf (namesIn text spans) (factsOf false (literalsAt text true (r .effect)))
-  pub dels : r .dels ≡ maskOf (namesIn text spans) (factsOf true (literalsAt text true (r .effect)))
+  pub needs : number (r .needs) ≡ maskOf (namesIn text spans) (factsOf false (literalsAt text false (r .precondition)))
+  pub adds : number (r .adds) ≡ maskOf (namesIn text spans) (factsOf false (literalsAt text true (r .effect)))
+  pub dels : number (r .dels) ≡ maskOf (namesIn text spans) (factsOf true (literalsAt text true (r .effect)))
   pub names : r .known ≡ knownAction (namesIn text spans ++ atomsFrom text more) (actionOf text r)
 
 -- the actions from an offset on

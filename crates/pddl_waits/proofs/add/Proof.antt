@@ -4,42 +4,42 @@ use Rattle.pddl_waits.proofs.Filling.{in-table, no-fact, no-action}
 use Rattle.pddl_waits.proofs.add.Statement.{statement}
 use Rattle.pddl_waits.proofs.add.Tie as tie
 
-mul-with-fact : tie.Need-mul-with-fact
-mul-with-fact c = search needs
+room-requires : tie.Need-room-requires
+room-requires c κs = search needs
 
-slice-read-with-fact : tie.Need-slice-read-with-fact
-slice-read-with-fact c = search needs
+fact-requires : tie.Need-fact-requires
+fact-requires c κs = search needs
 
-with-fact-requires : tie.Need-with-fact-requires
-with-fact-requires c κs = search needs
+load-requires : tie.Need-load-requires
+load-requires c κs = search needs
 
-mul-table : tie.Need-mul-table
-mul-table c = search needs
+union-requires : tie.Need-union-requires
+union-requires c κs = search needs
 
-slice-write-table : tie.Need-slice-write-table
-slice-write-table c = search needs
+store-requires : tie.Need-store-requires
+store-requires c κs = search needs
 
 same-length : tie.Need-same-length
 same-length c = search needs
 
 returns : tie.Need-returns
-returns c = search in-table
+returns c = search (needs, in-table)
 
 returns-2 : tie.Need-returns-2
-returns-2 c = search no-fact
+returns-2 c = search (needs, no-fact)
 
 returns-3 : tie.Need-returns-3
-returns-3 c = search no-action
+returns-3 c = search (needs, no-action)
 
 pub add-spec : {M : Type 1} → statement M
 add-spec =
     tie.close
     (tie.spec
-    mul-with-fact
-    slice-read-with-fact
-    with-fact-requires
-    mul-table
-    slice-write-table
+    room-requires
+    fact-requires
+    load-requires
+    union-requires
+    store-requires
     same-length
     returns
     returns-2

@@ -1,6 +1,6 @@
 -- `pddl_words::put_row` meets its contract.
 use borrow.Author.Needs.{needs}
-use Rattle.pddl_theory.proofs.Appending.{room-2, room-3, room-4, room-5, whole-row}
+use Rattle.pddl_words.proofs.Rows.{first-room, last-room, row-put, row-long}
 use Rattle.pddl_words.proofs.put_row.Statement.{statement}
 use Rattle.pddl_words.proofs.put_row.Tie as tie
 
@@ -10,47 +10,23 @@ mul-table c = search needs
 slice-write-table : tie.Need-slice-write-table
 slice-write-table c = search needs
 
-add-table : tie.Need-add-table
-add-table c = search needs
+add-put-masks : tie.Need-add-put-masks
+add-put-masks c = search needs
 
-mul-table-2 : tie.Need-mul-table-2
-mul-table-2 c = search needs
+put-masks-requires : tie.Need-put-masks-requires
+put-masks-requires c κs = search (needs, first-room)
 
-slice-write-table-2 : tie.Need-slice-write-table-2
-slice-write-table-2 c = search (needs, room-2)
+add-put-masks-2 : tie.Need-add-put-masks-2
+add-put-masks-2 c = search needs
 
-add-table-2 : tie.Need-add-table-2
-add-table-2 c = search needs
-
-mul-table-3 : tie.Need-mul-table-3
-mul-table-3 c = search needs
-
-slice-write-table-3 : tie.Need-slice-write-table-3
-slice-write-table-3 c = search (needs, room-3)
-
-add-table-3 : tie.Need-add-table-3
-add-table-3 c = search needs
-
-mul-table-4 : tie.Need-mul-table-4
-mul-table-4 c = search needs
-
-slice-write-table-4 : tie.Need-slice-write-table-4
-slice-write-table-4 c = search (needs, room-4)
-
-add-table-4 : tie.Need-add-table-4
-add-table-4 c = search needs
-
-mul-table-5 : tie.Need-mul-table-5
-mul-table-5 c = search needs
-
-slice-write-table-5 : tie.Need-slice-write-table-5
-slice-write-table-5 c = search (needs, room-5)
+put-masks-requires-2 : tie.Need-put-masks-requires-2
+put-masks-requires-2 c κs = search (needs, last-room)
 
 same-length : tie.Need-same-length
-same-length c = search needs
+same-length c = search (needs, row-long)
 
 returns : tie.Need-returns
-returns c = search (needs, whole-row)
+returns c = search (needs, row-put)
 
 pub put-row-spec : {M : Type 1} → statement M
 put-row-spec =
@@ -58,17 +34,9 @@ put-row-spec =
     (tie.spec
     mul-table
     slice-write-table
-    add-table
-    mul-table-2
-    slice-write-table-2
-    add-table-2
-    mul-table-3
-    slice-write-table-3
-    add-table-3
-    mul-table-4
-    slice-write-table-4
-    add-table-4
-    mul-table-5
-    slice-write-table-5
+    add-put-masks
+    put-masks-requires
+    add-put-masks-2
+    put-masks-requires-2
     same-length
     returns)

@@ -3,8 +3,8 @@ use Prim.Native.Nat.{_+_, _*_, _/_, _≤_}
 use native.Mathlib.Omega.{arith}
 use borrow.Author.Needs.{needs}
 use Rattle.theory.proofs.Accepted.{accepted}
-use Rattle.program.specs.Program.{localWords, configurationWords}
-use Rattle.program.proofs.Laws.{rows-most, configurations-most, front-length, lends}
+use Rattle.program.proofs.Laws.{localCopies, configurationCopies, mostConfigurations, rows-most}
+use Rattle.program.proofs.Laws.{configurations-most, front-length, lends}
 use Rattle.program.proofs.of_task.Statement.{statement}
 use Rattle.program.proofs.of_task.Tie as tie
 
@@ -18,10 +18,10 @@ few m =
     let s : tie.Start = search in
     omega (arith, m .members .ensures, accepted (s .args .t .now) (s .pre .0) .few-members)
 
-rows : (m : tie.After-members) → m .members .result * (localWords / m .members .result) ≤ localWords
+rows : (m : tie.After-members) → m .members .result * (localCopies / m .members .result) ≤ localCopies
 rows m = rows-most (m .members .result)
 
-most : (m : tie.After-members) → configurationWords / (m .members .result + 1) ≤ 4096
+most : (m : tie.After-members) → configurationCopies / (m .members .result + 1) ≤ mostConfigurations
 most m = configurations-most (m .members .result) (some m)
 
 members-requires : tie.Need-members-requires
@@ -47,7 +47,7 @@ array-borrow-prefix-marks c = let m = c .before in omega (arith, rows m)
 
 slice-aggregate-judge-2 : tie.Need-slice-aggregate-judge-2
 slice-aggregate-judge-2 c = let m =
-    c .before .before in front-length (m .members .result * (localWords / m .members .result)) 4096 (rows m)
+    c .before .before in front-length (m .members .result * (localCopies / m .members .result)) localCopies (rows m)
 
 slice-aggregate-judge-3 : tie.Need-slice-aggregate-judge-3
 slice-aggregate-judge-3 c = search needs
@@ -60,7 +60,7 @@ array-borrow-prefix-trail c = let m : tie.After-members = search in omega (arith
 
 slice-aggregate-judge-4 : tie.Need-slice-aggregate-judge-4
 slice-aggregate-judge-4 c = let m : tie.After-members = search in
-    front-length (2 * (configurationWords / (m .members .result + 1))) 8192 (omega (arith, most m))
+    front-length (2 * (configurationCopies / (m .members .result + 1))) (2 * mostConfigurations) (omega (arith, most m))
 
 add-plans : tie.Need-add-plans
 add-plans c = let m : tie.After-members = search in omega (arith, rows m, most m)
@@ -71,8 +71,8 @@ array-borrow-prefix-plans c = let m : tie.After-members = search in omega (arith
 slice-aggregate-judge-5 : tie.Need-slice-aggregate-judge-5
 slice-aggregate-judge-5 c = let m : tie.After-members = search in
     front-length
-    (configurationWords / (m .members .result + 1) + m .members .result * (localWords / m .members .result)) 8192
-    (omega (arith, most m, rows m))
+    (configurationCopies / (m .members .result + 1) + m .members .result * (localCopies / m .members .result))
+    (mostConfigurations + localCopies) (omega (arith, most m, rows m))
 
 array-borrow-prefix-ends : tie.Need-array-borrow-prefix-ends
 array-borrow-prefix-ends c = let m : tie.After-members = search in omega (arith, few m)
@@ -85,7 +85,7 @@ array-borrow-prefix-picks c = let m : tie.After-members = search in omega (arith
 
 slice-aggregate-judge-7 : tie.Need-slice-aggregate-judge-7
 slice-aggregate-judge-7 c = let m : tie.After-members = search in
-    front-length (configurationWords / (m .members .result + 1)) 4096 (most m)
+    front-length (configurationCopies / (m .members .result + 1)) mostConfigurations (most m)
 
 judge-requires : tie.Need-judge-requires
 judge-requires c κs =

@@ -5,4 +5,4 @@ use Rattle.report.specs.Inner.Put.{mostFile}
 -- the bytes of the longest file: the verdict's line, eight plan lines, and lines for as many actions and picks as the
 -- slices hold
 abbrev pub mostBytes : ℕ
-mostBytes = mostFile (1 + 8 + 8192 + 4096)
+mostBytes = mostFile (1 + 8 + 4096 + 2048)

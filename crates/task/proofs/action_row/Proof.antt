@@ -4,8 +4,8 @@ use Rattle.task.proofs.Laws.{no-owner, masks-above, wait-outside, actio
 use Rattle.task.proofs.action_row.Statement.{statement}
 use Rattle.task.proofs.action_row.Tie as tie
 
-action-word-requires : tie.Need-action-word-requires
-action-word-requires c κs = search needs
+owner-word-requires : tie.Need-owner-word-requires
+owner-word-requires c κs = search needs
 
 word-requires : tie.Need-word-requires
 word-requires c κs = search needs
@@ -32,7 +32,7 @@ pub action-row-spec : {M : Type 1} → statement M
 action-row-spec =
     tie.close
     (tie.spec
-    action-word-requires
+    owner-word-requires
     word-requires
     returns
     masks-below-requires

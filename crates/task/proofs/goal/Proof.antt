@@ -5,17 +5,14 @@ use Rattle.theory.proofs.Accepted.{accepted}
 use Rattle.task.proofs.goal.Statement.{statement}
 use Rattle.task.proofs.goal.Tie as tie
 
-add-word : tie.Need-add-word
-add-word c = omega (arith, accepted (c .before .args .t .now) (c .before .pre .0) .size)
+add-mask-in : tie.Need-add-mask-in
+add-mask-in c = omega (arith, accepted (c .before .args .t .now) (c .before .pre .0) .size)
 
-word-requires : tie.Need-word-requires
-word-requires c κs = omega (arith, accepted (c .before .args .t .now) (c .before .pre .0) .size)
-
-of-word-requires : tie.Need-of-word-requires
-of-word-requires c κs = search needs
+mask-in-requires : tie.Need-mask-in-requires
+mask-in-requires c κs = omega (arith, accepted (c .before .args .t .now) (c .before .pre .0) .size)
 
 returns : tie.Need-returns
 returns c = search needs
 
 pub goal-spec : {M : Type 1} → statement M
-goal-spec = tie.close (tie.spec add-word word-requires of-word-requires returns)
+goal-spec = tie.close (tie.spec add-mask-in mask-in-requires returns)

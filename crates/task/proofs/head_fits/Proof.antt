@@ -34,8 +34,8 @@ shared-slice-read-if5 c = search needs
 returns-5 : tie.Need-returns-5
 returns-5 c = search many-actions
 
-shared-slice-read-result : tie.Need-shared-slice-read-result
-shared-slice-read-result c = search needs
+zeros-requires : tie.Need-zeros-requires
+zeros-requires c κs = search needs
 
 returns-6 : tie.Need-returns-6
 returns-6 c = search head-last
@@ -54,5 +54,5 @@ head-fits-spec =
     returns-4
     shared-slice-read-if5
     returns-5
-    shared-slice-read-result
+    zeros-requires
     returns-6)

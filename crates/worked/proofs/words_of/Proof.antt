@@ -11,10 +11,11 @@ use Rattle.worked.proofs.words_of.Statement.{statement}
 use Rattle.worked.proofs.words_of.Tie as tie
 
 -- the words of the records stand in the slice
-room : (text out : List ℕ) (r : Scan) (n : ℕ) → scanMeans 5 265 text out r → r ≡ Records n → 5 * n ≤ length out
-room text out r n m e = subst (scanMeans 5 265 text out) e m .room
+room : (w most : ℕ) (text out : List ℕ) (r : Scan) (n : ℕ) → scanMeans w most text out r → r ≡ Records n
+    → w * n ≤ length out
+room w most text out r n m e = subst (scanMeans w most text out) e m .room
 
-held : (c : tie.After-scan) → 5 * c .scan .given .0 .0 ≤ length (c .before .before .scan-text .last .1 .0)
+held : (c : tie.After-scan) → 9 * c .scan .given .0 .0 ≤ length (c .before .before .scan-text .last .1 .0)
 held c = search room
 
 scan-text-requires : tie.Need-scan-text-requires

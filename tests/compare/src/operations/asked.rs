@@ -8,9 +8,9 @@ use super::{member, sizes::bundle};
 use crate::case::{list, Checked, Class, Comparison, Input};
 use crate::lent::Lent;
 use reference::generate::contents;
-use reference::generate::plans::{any_run, change_number, ticket, Bundle};
+use reference::generate::plans::{any_run, change_number, run_at_start, ticket, Bundle};
 use reference::generate::sizes::Turns;
-use reference::interface::{out_length, Interface, Ticket, CHANGE, LAST, RUN, SHARED};
+use reference::interface::{out_length, Interface, Ticket, CHANGE, LAST, SHARED};
 use reference::paper::interface as paper;
 use reference::random::Random;
 
@@ -32,12 +32,7 @@ pub fn any(random: &mut Random, checked: &impl Interface) -> Checked {
     let (words, planner, bundle) = task_with_plans(random);
     let run = match &planner {
         Some(planner) if random.chance(30) => planner.run(random, &bundle),
-        Some(planner) => {
-            let mut run = vec![0; RUN];
-            run[SHARED] = planner.task.initial;
-            run[CHANGE] = u64::from(change_number(random));
-            run
-        }
+        Some(planner) => run_at_start(planner.task.initial, change_number(random)),
         None => any_run(random),
     };
     let calls = random.between(1, CALLS);
@@ -47,7 +42,7 @@ pub fn any(random: &mut Random, checked: &impl Interface) -> Checked {
 /// So many calls on a run of members that take turns, where most steps go.
 pub fn in_turn(random: &mut Random, checked: &impl Interface, calls: usize) -> Checked {
     let members = random.between(2, 8);
-    let turns = Turns::new(members);
+    let turns = Turns::anywhere(random, members);
     let mut plans: Vec<Vec<u16>> =
         (0..members).map(|member| turns.plan(member, calls / members)).collect();
     // One takes the shared fact and another waits for it, or needs it.
@@ -55,10 +50,8 @@ pub fn in_turn(random: &mut Random, checked: &impl Interface, calls: usize) -> C
         plans[0].push(turns.takes(0));
         plans[1].push(random.one_of(&[turns.waits(1), turns.needs(1)]));
     }
-    let mut run = vec![0; RUN];
-    run[SHARED] = turns.law.initial;
     let numbers = [0, change_number(random), LAST - random.below(2 * calls) as u32];
-    run[CHANGE] = u64::from(random.one_of(&numbers));
+    let run = run_at_start(turns.law.initial, random.one_of(&numbers));
     calls_on(random, checked, turns.law.words(), bundle(plans), run, calls)
 }
 
@@ -134,7 +127,7 @@ fn calls_on(
         }
         match this {
             Call::Ask(_) if expected == 0 => {
-                let (member, change) = (expected_out[2] as u8, expected_out[3] as u32);
+                let (member, change) = (expected_out[3] as u8, expected_out[4] as u32);
                 tickets.push(Ticket { member, change });
             }
             Call::Ask(_) => {}
@@ -181,13 +174,14 @@ fn answers_as_asked(
 ) {
     let mut asked = [0; out_length::ASK];
     let refusal = checked.ask(words, plans, ends, &mut before.to_vec(), member, &mut asked);
+    let shared = SHARED..CHANGE;
     let as_asked = match asked[0] {
-        0 => answered[0] == 0 && after[SHARED] == asked[1],
-        2 => answered[0] == 1 && after[SHARED] == before[SHARED],
+        0 => answered[0] == 0 && after[shared] == asked[1..3],
+        2 => answered[0] == 1 && after[shared.clone()] == before[shared],
         _ => false,
     };
     let ticket = [u64::from(member), u64::from(change)];
-    if refusal != 0 || !as_asked || asked[2..] != ticket {
+    if refusal != 0 || !as_asked || asked[3..] != ticket {
         comparison.differ(format!("a commit answers {}, asked {asked:?}", answered[0]));
     }
 }

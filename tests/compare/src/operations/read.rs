@@ -14,6 +14,9 @@ use reference::random::Random;
 /// Words that the reader asks for.
 pub const ASKED: usize = RECORDS * ROW;
 
+/// Those that it asked for before laws had 128 facts.
+const OLD: usize = 5 * RECORDS;
+
 pub fn read(random: &mut Random, checked: &impl Interface) -> Checked {
     let mut bytes = text::of_words(&task_words(random, 25)).into_bytes();
     if random.chance(60) {
@@ -21,7 +24,7 @@ pub fn read(random: &mut Random, checked: &impl Interface) -> Checked {
     }
     let asked = ASKED;
     let length = match random.below(20) {
-        0 => random.one_of(&[0, 1, asked - 5, asked - 1, asked - 1]),
+        0 => random.one_of(&[0, 1, OLD, asked - ROW, asked - 1, asked - 1]),
         1..=3 => asked + random.between(1, 7),
         _ => asked,
     };

@@ -2,16 +2,18 @@
 //! of two up to its limit, one less and one more.
 
 use super::{asked, read, run, solo, step, verdict};
-use crate::case::Checked;
+use crate::case::{Checked, Class};
 use reference::generate::families::counters;
-use reference::generate::plans::{change_number, Bundle};
+use reference::generate::plans::{change_number, put_shared, run_at_start, Bundle};
 use reference::generate::sizes::{
     amid, beside, digits, doubled, fault_after, fault_before, forest, last_action, last_fact,
-    last_unsolvable, odometer, odometer_past, padded, records, scattered, sizes, tree, winder,
-    zigzag, Back, Fault, Tree, Turns, Wants,
+    last_fact_of_two, last_unsolvable, odometer, odometer_past, padded, records, scattered, sizes,
+    tree, winder, zigzag, Back, Fault, Tree, Turns, Wants,
 };
-use reference::generate::{contents, shuffle, text, Law};
-use reference::interface::{Interface, Ticket, CHANGE, LAST, RUN, SHARED};
+use reference::generate::{contents, shuffle, some, text, Law};
+use reference::interface::{
+    mask_words, Interface, Ticket, CHANGE, FACTS, LAST, MASK, ROW, RUN, TOO_SHORT,
+};
 use reference::random::Random;
 use std::sync::OnceLock;
 
@@ -20,14 +22,12 @@ const EVERY: u64 = 64;
 
 /// The most steps, picks and places.
 const STEPS: usize = 65_537;
-/// The rows of the verdict program's tables; what a missed goal and another fault of two members
-/// need of them.
+/// The most rows of a table; what a missed goal and another fault of two members need of them.
 const ROWS: usize = 4097;
 const MISSED: usize = 2049;
 const PICKS: usize = 1025;
 /// Rows that become live one by one against their order, and those of each member of a forest.
 const SLOW: usize = 1025;
-const FACTS: usize = 64;
 const MEMBERS: usize = 8;
 const ACTIONS: usize = 256;
 const RECORDS: usize = 265;
@@ -118,12 +118,23 @@ enum Made {
     ReadBadRecord,
     ReadDigits,
     ReadSlack,
+    StepAdds,
+    SoloFacts,
+    SearchFacts,
+    SearchWords,
+    JointFacts,
+    PickFacts,
+    CommitFacts,
+    PlayFacts,
+    VerdictFacts,
+    VerdictLocalWords,
+    VerdictWords,
 }
 use Made::*;
 
 /// Everything that a case is made for, with the largest size. What is new comes last, so that the
 /// other cases keep their numbers.
-const MADE: [(Made, usize); 85] = [
+const MADE: [(Made, usize); 96] = [
     (TaskFacts, FACTS),
     (TaskFactAbove, FACTS - 1),
     (TaskMembers, MEMBERS),
@@ -209,6 +220,17 @@ const MADE: [(Made, usize); 85] = [
     (CommitChange, CHANGES),
     (CommitStale, CHANGES),
     (Calls, CALLS),
+    (StepAdds, FACTS),
+    (SoloFacts, FACTS),
+    (SearchFacts, FACTS),
+    (SearchWords, SLOW),
+    (JointFacts, FACTS),
+    (PickFacts, FACTS),
+    (CommitFacts, FACTS),
+    (PlayFacts, FACTS),
+    (VerdictFacts, FACTS),
+    (VerdictLocalWords, SLOW),
+    (VerdictWords, SLOW),
 ];
 
 /// Every case that is made for a size, in turn.
@@ -244,13 +266,22 @@ pub fn among(cases: u64) -> u64 {
     cases.div_ceil(EVERY).min(count())
 }
 
+/// How often a case is tried anew where a lent slice is too short: that says nothing of the size.
+const TRIES: usize = 4;
+
 /// The case with this number, where it is made for a size.
 pub fn any(case: u64, random: &mut Random, checked: &impl Interface) -> Option<Checked> {
     if !case.is_multiple_of(EVERY) {
         return None;
     }
     let (made, size) = list()[(case / EVERY % count()) as usize];
-    Some(made.check(size, random, checked))
+    let mut ran = made.check(size, random, checked);
+    for _ in 1..TRIES {
+        if ran.class == Class::Refusal(TOO_SHORT) && ran.failure.is_none() {
+            ran = made.check(size, random, checked);
+        }
+    }
+    Some(ran)
 }
 
 impl Made {
@@ -259,32 +290,35 @@ impl Made {
             TaskFacts => step::task_on(checked, last_fact(random, size).words()),
             TaskFactAbove => {
                 let mut words = last_fact(random, size).words();
-                let mask = random.one_of(&[3, 6, 11, 12, 13, 14, 16, 21]);
-                words[mask] |= 1 << random.between(size, 63);
+                // The masks of its rows.
+                let mask = random.one_of(&[3, 10, 19, 21, 23, 25, 28, 37]);
+                let above = random.between(size, FACTS - 1);
+                words[mask + above / 64] |= 1 << (above % 64);
                 step::task_on(checked, words)
             }
             TaskMembers => {
                 let mut words = last_unsolvable(size).words();
-                let wrong = random.one_of(&[0, 2, 3, 4]);
-                words[5 * size + wrong] ^= random.one_of(&[1, 8, 1 << 63]);
+                let wrong = random.one_of(&[0, 3, 4, 5, 6, 7, 8]);
+                words[ROW * size + wrong] ^= random.one_of(&[1, 8, 1 << 63]);
                 step::task_on(checked, words)
             }
             TaskActions => {
                 let mut words = last_action(size).words();
-                let row = words.len() - 5;
-                let wrong = random.below(5);
+                let row = words.len() - ROW;
+                let wrong = random.below(ROW);
                 words[row + wrong] ^= random.one_of(&[4, 8, 1 << 63]);
                 step::task_on(checked, words)
             }
-            StepFacts => {
+            StepFacts | StepAdds => {
                 let law = last_fact(random, size);
-                let action = random.below(2) as u16;
-                let shared = random.word() & (law.known() >> 1) | (action as u64) << (size - 1);
-                step::step_on(random, checked, law.words(), action, vec![shared])
+                let action = if matches!(self, StepAdds) { 0 } else { random.below(2) as u16 };
+                let shared = random.mask() & (law.known() >> 1) | u128::from(action) << (size - 1);
+                let shared = mask_words(shared).to_vec();
+                step::step_on(random, checked, law.words(), action, shared)
             }
             StepActions | StepNoAction => {
                 let action = if matches!(self, StepActions) { size - 1 } else { size };
-                let shared = vec![random.below(4) as u64];
+                let shared = vec![random.below(4) as u64, 0];
                 step::step_on(random, checked, last_action(size).words(), action as u16, shared)
             }
             StartFacts => {
@@ -294,7 +328,7 @@ impl Made {
                 run::start_on(checked, law.words(), run)
             }
             SoloMembers => {
-                let turns = Turns::new(size);
+                let turns = Turns::anywhere(random, size);
                 let plan = turns.plan(size - 1, random.below(4));
                 solo::replay_on(random, checked, turns.law.words(), size as u8 - 1, plan)
             }
@@ -304,7 +338,7 @@ impl Made {
             }
             SoloSteps | SoloShort | SoloBreak | SoloBadEntry => self.solo(size, random, checked),
             SearchMembers => {
-                let words = Turns::new(size).law.words();
+                let words = Turns::anywhere(random, size).law.words();
                 solo::search_in(random, checked, words, size as u8 - 1, 8)
             }
             SearchActions => solo::search_in(random, checked, last_action(size).words(), 0, 8),
@@ -336,7 +370,7 @@ impl Made {
                 solo::search_in(random, checked, law.words(), 0, rows)
             }
             JointMissedMember => {
-                let mut turns = Turns::new(size.max(2));
+                let mut turns = Turns::anywhere(random, size.max(2));
                 let missed = turns.law.goals.len() - 1;
                 turns.wants(missed);
                 let taker = random.below(missed);
@@ -369,8 +403,7 @@ impl Made {
             | CommitPastEnd | CommitChange | CommitStale => self.pick(size, random, checked),
             AskFacts => {
                 let law = last_fact(random, size);
-                let mut run = vec![0; RUN];
-                run[SHARED] = random.word() & law.known();
+                let run = run_at_start(some(random, size), 0);
                 run::ask_on(random, checked, law.words(), bundle(vec![vec![0]]), run, 0)
             }
             PlayGo | PlayCollision | PlayPassedOver | PlaySlack | PlayChange | PlayLast => {
@@ -460,16 +493,66 @@ impl Made {
                 let text = text::of_words(&records(random, RECORDS, FACTS).words());
                 read::read_on(random, checked, text.into_bytes(), read::ASKED + size)
             }
+            SoloFacts | SearchFacts | JointFacts | PickFacts | CommitFacts | PlayFacts
+            | VerdictFacts => self.facts(size, random, checked),
+            // A table of so many words: just enough, or where the number is odd one too few.
+            SearchWords => {
+                let words = odometer(size.div_ceil(MASK)).words();
+                solo::search_of_length(random, checked, words, 0, size)
+            }
+            VerdictLocalWords | VerdictWords => {
+                let members = random.between(1, 3);
+                let (rows, lacking) = (size.div_ceil(MASK), size % MASK);
+                let words = amid(odometer(rows), 0, members - 1).words();
+                let mut lengths = [MASK * members * rows, MASK * (members + 1) * rows];
+                lengths[usize::from(matches!(self, VerdictWords))] -= lacking;
+                let slices = verdict::of_lengths(random, members, lengths);
+                verdict::verdict_on(random, checked, words, slices)
+            }
+        }
+    }
+
+    /// A law in which the last of so many facts decides: two members of whom the second adds it and
+    /// the first needs it.
+    fn facts(self, size: usize, random: &mut Random, checked: &impl Interface) -> Checked {
+        let law = last_fact_of_two(random, size);
+        let start = run_at_start(law.initial | random.one_of(&[0, 1 << (size - 1)]), 0);
+        let (words, plans) = (law.words(), bundle(vec![vec![0, 1], vec![2]]));
+        match self {
+            SoloFacts => {
+                let plan = random.one_of(&[&[0, 1][..], &[1], &[0]]).to_vec();
+                solo::replay_on(random, checked, words, 0, plan)
+            }
+            SearchFacts => solo::search_in(random, checked, words, 0, 4),
+            JointFacts => {
+                let picks = random.one_of(&[&[0, 1, 0][..], &[1, 0, 0], &[0, 0]]).to_vec();
+                run::joint_replay_on(random, checked, words, plans, picks)
+            }
+            PickFacts => run::pick_on(random, checked, words, plans, start, 0),
+            CommitFacts => {
+                let ticket = Ticket { member: 0, change: 0 };
+                run::commit_on(random, checked, words, plans, start, ticket)
+            }
+            PlayFacts => {
+                let picks = random.one_of(&[[0, 1, 0], [1, 0, 0], [0, 0, 1]]).to_vec();
+                let answers = contents(random, picks.len());
+                run::play_on(checked, words, plans, start, picks, answers)
+            }
+            _ => judged(random, checked, law, [8, 16]),
         }
     }
 
     /// Solo replay of a plan that goes well for about `size` steps.
     fn solo(self, size: usize, random: &mut Random, checked: &impl Interface) -> Checked {
-        let mut turns = Turns::new(random.between(2, MEMBERS));
+        let members = random.between(2, MEMBERS);
+        let mut turns = Turns::anywhere(random, members);
         let member = random.below(turns.law.goals.len());
         let mut plan = turns.plan(member, size);
         match self {
-            SoloShort => turns.law.goals[member] = u64::from(size.is_multiple_of(2)) << member,
+            SoloShort => {
+                let missing = size.is_multiple_of(2);
+                turns.law.goals[member] = if missing { turns.own[member] } else { 0 };
+            }
             SoloBreak => {
                 plan[size - 1] = turns.takes(member);
                 plan.extend(vec![turns.needs(member); random.between(1, 3)]);
@@ -485,12 +568,17 @@ impl Made {
 
     /// Joint replay of about `size` picks.
     fn joint(self, size: usize, random: &mut Random, checked: &impl Interface) -> Checked {
-        let mut turns = Turns::new(random.between(2, MEMBERS));
+        let members = random.between(2, MEMBERS);
+        let mut turns = Turns::anywhere(random, members);
         let members = turns.law.goals.len();
         let taker = random.below(members);
         let other = (taker + random.between(1, members - 1)) % members;
         let turned = if matches!(self, JointFault(_)) { size - 1 } else { size };
-        let lengths = shares(random, members, turned);
+        let mut lengths = shares(random, members, turned);
+        if matches!(self, JointUnsolved) && size > 256 {
+            lengths.fill(0);
+            lengths[other] = size;
+        }
         let mut plans: Vec<Vec<u16>> =
             lengths.iter().enumerate().map(|(member, &steps)| turns.plan(member, steps)).collect();
         let mut picks = in_any_order(random, &lengths);
@@ -525,28 +613,27 @@ impl Made {
         let last = matches!(self, PickMembers | AskMembers | CommitMembers);
         let counts = matches!(self, PickChange | AskChange | CommitChange | CommitStale);
         let members = if last { size } else { random.between(1, MEMBERS) };
-        let turns = Turns::new(members);
+        let turns = Turns::anywhere(random, members);
         let member = if last { size - 1 } else { random.below(members) };
-        let (steps, shared_fact) = (if last || counts { 2 } else { size }, 1 << members);
+        let steps = if last || counts { 2 } else { size };
         let mut plans: Vec<Vec<u16>> =
             (0..members).map(|member| turns.plan(member, random.below(3))).collect();
         plans[member] = turns.plan(member, steps);
-        let mut run = vec![0; RUN];
-        run[SHARED] = turns.law.known();
+        let (all, rest) = (turns.law.known(), turns.law.known() & !turns.shared);
+        let mut run = run_at_start(all, if counts { size } else { steps } as u32);
         run[1 + member] = steps as u64;
-        run[CHANGE] = if counts { size as u64 } else { steps as u64 };
         match self {
             PickCollision | AskCollision | CommitCollision => {
                 plans[member].push(turns.needs(member));
-                run[SHARED] &= !shared_fact;
+                put_shared(&mut run, rest);
             }
             AskWait => {
                 plans[member].push(turns.waits(member));
-                run[SHARED] &= !shared_fact;
+                put_shared(&mut run, rest);
             }
             PickImpossible | CommitImpossible if random.chance(50) => {
                 plans[member].push(turns.waits(member));
-                run[SHARED] &= !shared_fact;
+                put_shared(&mut run, rest);
             }
             PickImpossible | AskImpossible | CommitImpossible => {}
             PickPastEnd | AskPastEnd | CommitPastEnd => run[1 + member] += 1,
@@ -574,8 +661,8 @@ impl Made {
     /// About `size` picks played on a run at its start, on one with that change number, or on one
     /// that the last of these picks but one brings to the last change number.
     fn play(self, size: usize, random: &mut Random, checked: &impl Interface) -> Checked {
-        let turns = Turns::new(random.between(2, MEMBERS));
-        let members = turns.law.goals.len();
+        let members = random.between(2, MEMBERS);
+        let turns = Turns::anywhere(random, members);
         let few = matches!(self, PlaySlack | PlayChange);
         let lengths = shares(random, members, if few { 3 } else { size });
         let mut plans: Vec<Vec<u16>> =
@@ -590,13 +677,12 @@ impl Made {
             PlayPassedOver => picks.push(random.one_of(&[members as u8, u8::MAX, 0])),
             _ => {}
         }
-        let mut run = vec![0; RUN];
-        run[SHARED] = turns.law.initial;
-        match self {
-            PlayChange => run[CHANGE] = size as u64,
-            PlayLast => run[CHANGE] = u64::from(LAST) + 1 - size as u64,
-            _ => {}
-        }
+        let change = match self {
+            PlayChange => size as u32,
+            PlayLast => (u64::from(LAST) + 1 - size as u64) as u32,
+            _ => 0,
+        };
+        let run = run_at_start(turns.law.initial, change);
         let free = if matches!(self, PlaySlack) { size } else { random.below(3) };
         let answers = contents(random, picks.len() + free);
         run::play_on(checked, turns.law.words(), bundle(plans), run, picks, answers)

@@ -8,7 +8,7 @@ use crate::lent::Lent;
 use reference::fast::{copies, Task};
 use reference::generate::plans::Planner;
 use reference::generate::{contents, length_near};
-use reference::interface::{out_length, Interface};
+use reference::interface::{out_length, Interface, MASK};
 use reference::paper::interface as paper;
 use reference::random::Random;
 
@@ -75,7 +75,7 @@ pub fn search_on(
     search_in(random, checked, words, member, rows)
 }
 
-/// The solo search of this member in a table of so many rows.
+/// The solo search of this member in a table of so many rows, at times with an odd word more.
 pub fn search_in(
     random: &mut Random,
     checked: &impl Interface,
@@ -83,9 +83,21 @@ pub fn search_in(
     member: u8,
     rows: usize,
 ) -> Checked {
-    let marked = length_near(random, rows);
+    let length = MASK * rows + random.below(MASK);
+    search_of_length(random, checked, words, member, length)
+}
+
+/// The solo search of this member in a table of so many words.
+pub fn search_of_length(
+    random: &mut Random,
+    checked: &impl Interface,
+    words: Vec<u64>,
+    member: u8,
+    length: usize,
+) -> Checked {
+    let marked = length_near(random, length / MASK);
     let entry = Slices {
-        table: contents(random, rows),
+        table: contents(random, length),
         marks: contents(random, marked),
         out: random_out(random, out_length::SOLO_SEARCH),
     };

@@ -3,8 +3,8 @@
 use super::task_words;
 use crate::case::{class, list, Checked, Comparison, Input};
 use crate::lent::Lent;
-use reference::generate::{contents, length_near};
-use reference::interface::{out_length, Interface};
+use reference::generate::{all, contents, length_near, some};
+use reference::interface::{mask_of, mask_words, out_length, Interface, FACTS, ROW};
 use reference::paper::interface as paper;
 use reference::random::Random;
 
@@ -59,21 +59,27 @@ pub fn step_on(
     })
 }
 
-/// A shared copy: near the action's preconditions, anything within F, or anything; mostly one word.
+/// A shared copy: near the action's preconditions, anything within F, or anything; mostly two
+/// words, at times exchanged.
 fn shared_copy(random: &mut Random, words: &[u64], action: u16) -> Vec<u64> {
-    let facts = words.first().copied().unwrap_or(1).clamp(1, 64);
-    let known = u64::MAX >> (64 - facts);
+    let facts = words.first().copied().unwrap_or(1).clamp(1, FACTS as u64) as usize;
+    let known = all(facts);
     let goals = words.get(1).copied().unwrap_or(1).min(8) as usize;
-    let row = 5 * (1 + goals + action as usize);
-    let word = match (random.below(10), words.get(row..row + 5)) {
-        (0..=2, Some(row)) => (row[1] | random.word()) & known,
-        (3..=5, Some(row)) => (row[2] | random.word()) & known,
-        (6, _) => random.word(),
-        (7, _) => u64::MAX,
-        _ => random.word() & known,
+    let row = ROW * (1 + goals + action as usize);
+    let copy = match (random.below(12), words.get(row..row + ROW)) {
+        (0..=2, Some(row)) => (mask_of(&row[1..]) | some(random, facts)) & known,
+        (3..=5, Some(row)) => (mask_of(&row[3..]) | some(random, facts)) & known,
+        (6, _) => random.mask(),
+        (7, _) => u128::MAX,
+        (8, Some(row)) => mask_of(&row[1..]).rotate_left(64),
+        (9, _) => known | 1 << random.below(FACTS),
+        _ => some(random, facts),
     };
-    let length = if random.chance(95) { 1 } else { random.one_of(&[0, 2, 3]) };
-    vec![word; length]
+    let mut copy = mask_words(copy).to_vec();
+    if random.chance(5) {
+        copy.resize(random.one_of(&[0, 1, 1, 3, 3, 4]), 0);
+    }
+    copy
 }
 
 /// An `out` at entry: mostly just long enough.

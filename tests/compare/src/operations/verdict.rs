@@ -9,7 +9,7 @@ use reference::brute;
 use reference::fast::{count_configurations, Copies};
 use reference::generate::plans::{Bundle, Planner};
 use reference::generate::{contents, length_near};
-use reference::interface::{give, out_length, Interface, TOO_SHORT};
+use reference::interface::{give, out_length, Interface, MASK, TOO_SHORT};
 use reference::paper::conflict::Conflict;
 use reference::paper::interface::{outcome_numbers, verdict_numbers};
 use reference::paper::run::{joint_replay, Outcome};
@@ -100,6 +100,16 @@ pub fn room(random: &mut Random, members: usize, rows: [usize; 2]) -> Slices {
     slices_for(random, members, rows, |random, asked| asked + random.one_of(&[0, 0, 1, 4]))
 }
 
+/// Slices with a local table and a configuration table of just so many words, the others as long as
+/// asked.
+pub fn of_lengths(random: &mut Random, members: usize, words: [usize; 2]) -> Slices {
+    let rows = [words[0] / (MASK * members), words[1] / (MASK * (members + 1))];
+    let mut slices = slices_for(random, members, rows, |_, asked| asked);
+    slices.local = contents(random, words[0]);
+    slices.configurations = contents(random, words[1]);
+    slices
+}
+
 /// Slices for so many rows, the others of a length near what is asked.
 fn slices_for(
     random: &mut Random,
@@ -107,8 +117,8 @@ fn slices_for(
     [rows, most]: [usize; 2],
     length: impl Fn(&mut Random, usize) -> usize,
 ) -> Slices {
-    let local = members * rows + random.below(members);
-    let configurations = (members + 1) * most + random.below(members + 1);
+    let local = MASK * members * rows + random.below(MASK * members);
+    let configurations = MASK * (members + 1) * most + random.below(MASK * (members + 1));
     let marks = length(random, members * rows);
     let trail = length(random, 2 * most);
     let plans = length(random, most + members * rows);
@@ -228,7 +238,7 @@ pub fn verdict_on(
         }
     }
     let class = crate::case::class(refusal, expected.out.first().copied().unwrap_or(0));
-    let small = words.len() >= 3 && words[0] <= 6 && words[1] <= 3 && words[2] <= 4;
+    let small = words.len() >= 3 && words[1] <= 3 && words[2] <= 4;
     // Every conflict of a small law, and some of the other verdicts.
     let not_robust = matches!(answer, Ok(Answer::NotRobust(..)));
     let beside = small && (not_robust || random.chance(25));

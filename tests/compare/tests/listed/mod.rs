@@ -1,10 +1,12 @@
 //! An enum together with the list of all its variants.
 
 macro_rules! listed {
-    ($(#[$note:meta])* enum $name:ident { $($variant:ident,)* }) => {
+    ($(#[$note:meta])* enum $name:ident {
+        $($(#[$about:meta])* $variant:ident,)*
+    }) => {
         $(#[$note])*
         enum $name {
-            $($variant,)*
+            $($(#[$about])* $variant,)*
         }
 
         impl $name {

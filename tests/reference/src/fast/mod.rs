@@ -12,31 +12,35 @@ pub use solo::{copies, Copies, DEAD};
 pub use text::read_words;
 pub use verdict::count_configurations;
 
-use crate::interface::{give, no_run, out_length, Interface, Pddl, Ticket, RUN, TOO_SHORT};
+use crate::interface::{
+    give, mask_of, mask_words, no_run, out_length, Interface, Pddl, Ticket, FACTS, MASK, ROW, RUN,
+    TOO_SHORT,
+};
+use crate::law::Law;
 
 /// An action of a checked task.
 #[derive(Clone, Copy, Debug)]
 pub struct Action {
     pub member: u8,
-    pub pre: u64,
-    pub wait: u64,
-    pub add: u64,
-    pub del: u64,
+    pub pre: u128,
+    pub wait: u128,
+    pub add: u128,
+    pub del: u128,
 }
 
 impl Action {
     /// The state after the action.
-    pub fn apply(&self, state: u64) -> u64 {
+    pub fn apply(&self, state: u128) -> u128 {
         (state & !self.del) | self.add
     }
 
     /// Every precondition holds.
-    pub fn applicable(&self, state: u64) -> bool {
+    pub fn applicable(&self, state: u128) -> bool {
         self.pre & !state == 0
     }
 
     /// A precondition that is waited for does not hold.
-    pub fn waits(&self, shared: u64) -> bool {
+    pub fn waits(&self, shared: u128) -> bool {
         self.wait & !shared != 0
     }
 }
@@ -44,9 +48,9 @@ impl Action {
 /// A checked task.
 #[derive(Clone, Debug)]
 pub struct Task {
-    pub known: u64,
-    pub initial: u64,
-    pub goals: Vec<u64>,
+    pub known: u128,
+    pub initial: u128,
+    pub goals: Vec<u128>,
     pub actions: Vec<Action>,
     /// The numbers of each member's actions.
     pub own: Vec<Vec<u16>>,
@@ -55,16 +59,19 @@ pub struct Task {
 impl Task {
     /// The task check.
     pub fn check(words: &[u64]) -> Result<Task, u64> {
-        let &[facts, members, actions, initial, zero, ..] = words else {
+        let Some((first, rows)) = words.split_first_chunk::<ROW>() else {
             return Err(1);
         };
-        if !(1..=64).contains(&facts) || !(1..=8).contains(&members) || actions > 256 || zero != 0 {
+        let [facts, members, actions, _, _, zeros @ ..] = *first;
+        let sizes = (1..=FACTS as u64).contains(&facts) && (1..=8).contains(&members);
+        if !sizes || actions > 256 || zeros != [0; 4] {
             return Err(2);
         }
-        if words.len() as u64 != 5 * (1 + members + actions) {
+        if rows.len() as u64 != ROW as u64 * (members + actions) {
             return Err(1);
         }
-        let known = u64::MAX >> (64 - facts);
+        let initial = mask_of(&first[3..]);
+        let known = u128::MAX >> (FACTS as u64 - facts);
         if initial & !known != 0 {
             return Err(4);
         }
@@ -75,8 +82,9 @@ impl Task {
             actions: Vec::with_capacity(actions as usize),
             own: vec![Vec::new(); members as usize],
         };
-        for (row, words) in words.chunks_exact(5).skip(1).enumerate() {
-            let &[first, pre, wait, add, del] = words else { unreachable!() };
+        for (row, words) in rows.chunks_exact(ROW).enumerate() {
+            let first = words[0];
+            let [pre, wait, add, del] = [1, 3, 5, 7].map(|place| mask_of(&words[place..]));
             if (row as u64) < members {
                 if first != row as u64 || wait | add | del != 0 {
                     return Err(3);
@@ -102,13 +110,27 @@ impl Task {
         Ok(task)
     }
 
+    /// The law in parts.
+    pub fn law(&self) -> Law {
+        let parts = |action: &Action| {
+            let &Action { member, pre, wait, add, del } = action;
+            [u128::from(member), pre, wait, add, del]
+        };
+        Law {
+            facts: self.known.count_ones() as usize,
+            initial: self.initial,
+            goals: self.goals.clone(),
+            actions: self.actions.iter().map(parts).collect(),
+        }
+    }
+
     /// The number of members.
     pub fn members(&self) -> usize {
         self.goals.len()
     }
 
     /// Whether a member's goal holds.
-    pub fn reached(&self, member: usize, state: u64) -> bool {
+    pub fn reached(&self, member: usize, state: u128) -> bool {
         self.goals[member] & !state == 0
     }
 }
@@ -150,10 +172,10 @@ impl<T: Twin> Interface for T {
     }
 
     fn step(&self, task: &[u64], action: u16, shared: &[u64], out: &mut [u64]) -> u64 {
-        let (&[shared], true) = (shared, out.len() >= out_length::STEP) else {
+        if out.len() < out_length::STEP || shared.len() != MASK {
             return TOO_SHORT;
-        };
-        given(out, step(task, action, shared))
+        }
+        given(out, step(task, action, mask_of(shared)))
     }
 
     fn solo_replay(&self, task: &[u64], member: u8, plan: &[u16], out: &mut [u64]) -> u64 {
@@ -301,17 +323,18 @@ impl Pddl for Fast {
     }
 }
 
-fn step(task: &[u64], action: u16, shared: u64) -> Result<[u64; 2], u64> {
+fn step(task: &[u64], action: u16, shared: u128) -> Result<[u64; 3], u64> {
     let task = Task::check(task)?;
     let action = task.actions.get(action as usize).ok_or(7u64)?;
     if shared & !task.known != 0 {
         return Err(4);
     }
     Ok(if action.waits(shared) {
-        [1, 0]
+        [1, 0, 0]
     } else if !action.applicable(shared) {
-        [2, 0]
+        [2, 0, 0]
     } else {
-        [0, action.apply(shared)]
+        let [low, high] = mask_words(action.apply(shared));
+        [0, low, high]
     })
 }

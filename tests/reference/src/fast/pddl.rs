@@ -1,6 +1,8 @@
 //! Laws in PDDL: one pass over the bytes, names in hash maps, and the writer.
 
 use super::Task;
+use crate::interface::{FACTS, ROW, ROWS};
+use crate::law;
 use std::collections::{HashMap, HashSet};
 use std::io::Write;
 
@@ -40,7 +42,7 @@ pub trait Manner {
     const WAITS_LEADING_ZERO: bool = false;
     const WAITS_LF: bool = false;
     const LIMITS_FIRST: bool = false;
-    const FACTS: usize = 64;
+    const FACTS: usize = FACTS;
     const MEMBERS: usize = 8;
     const ACTIONS: usize = 256;
     const WAITS_CHECKED: bool = true;
@@ -49,6 +51,11 @@ pub trait Manner {
     const CLEARS_BEYOND: bool = true;
     const CLEARS_REFUSED: bool = true;
     const CLEARS_SHORT: bool = false;
+
+    /// The bit that stands for a fact.
+    fn bit(fact: usize) -> u128 {
+        1 << fact
+    }
 }
 
 /// The reader as it has to be.
@@ -117,9 +124,9 @@ impl<'a> Scan<'a> {
 /// An action's masks.
 struct Masks {
     member: u64,
-    pre: u64,
-    add: u64,
-    del: u64,
+    pre: u128,
+    add: u128,
+    del: u128,
 }
 
 /// What has been read.
@@ -131,22 +138,29 @@ struct Law {
     /// The first problem's facts.
     initial: Vec<bool>,
     initial_list: Vec<usize>,
-    goals: Vec<u64>,
+    goals: Vec<u128>,
     actions: Vec<Masks>,
     all_actions: HashSet<Vec<u8>>,
     /// A name is unknown, given twice, or differs between members.
     unknown: bool,
 }
 
-/// A set of facts: its mask, and whether an atom was in it before.
-fn put<M: Manner>(mask: &mut u64, fact: usize) {
-    if fact < 64 {
-        let bit = 1 << fact;
-        if !M::REPEATED_COUNTS_ONCE && *mask & bit != 0 {
-            *mask &= !bit;
-        } else {
-            *mask |= bit;
-        }
+/// The bit of a fact; none where no task has so many.
+fn bit<M: Manner>(fact: usize) -> u128 {
+    if fact < FACTS {
+        M::bit(fact)
+    } else {
+        0
+    }
+}
+
+/// Puts the fact of an atom into a mask.
+fn put<M: Manner>(mask: &mut u128, fact: usize) {
+    let bit = bit::<M>(fact);
+    if !M::REPEATED_COUNTS_ONCE && *mask & bit != 0 {
+        *mask &= !bit;
+    } else {
+        *mask |= bit;
     }
 }
 
@@ -308,7 +322,12 @@ impl<'a, M: Manner> Reader<'a, M> {
     }
 
     /// The masks of what a condition or an effect adds and deletes.
-    fn condition(&mut self, depth: usize, effect: bool, masks: &mut (u64, u64)) -> Result<(), u64> {
+    fn condition(
+        &mut self,
+        depth: usize,
+        effect: bool,
+        masks: &mut (u128, u128),
+    ) -> Result<(), u64> {
         self.open()?;
         let word = self.any_word()?;
         if word.eq_ignore_ascii_case(b"and") && Self::is(word, "and") {
@@ -482,7 +501,8 @@ fn told<M: Manner>(text: &[u8], waits: &[u8]) -> Result<Vec<u64>, u64> {
     let law = Reader::<M>::new(text)?.law()?;
     let pairs = pairs?;
     let (facts, members, actions) = (law.predicates.len(), law.goals.len(), law.actions.len());
-    let limits = if M::WAITS_KNOWN_BY_LIMITS { [256, 64] } else { [actions as u64, facts as u64] };
+    let limits =
+        if M::WAITS_KNOWN_BY_LIMITS { [256, FACTS as u64] } else { [actions as u64, facts as u64] };
     let absent = |pair: &[u64; 2]| pair[0] >= limits[0] || pair[1] >= limits[1];
     let unknown = law.unknown || pairs.iter().any(absent);
     let many = facts > M::FACTS || members > M::MEMBERS || actions > M::ACTIONS;
@@ -493,20 +513,14 @@ fn told<M: Manner>(text: &[u8], waits: &[u8]) -> Result<Vec<u64>, u64> {
     } else if many {
         return Err(MANY);
     }
-    let bits = law.initial.iter().take(64).enumerate();
-    let initial = bits.filter(|(_, &holds)| holds).fold(0, |mask, (fact, _)| mask | 1 << fact);
-    let mut words = vec![facts as u64, members as u64, actions as u64, initial, 0];
-    for (member, &goal) in law.goals.iter().enumerate() {
-        words.extend([member as u64, goal, 0, 0, 0]);
-    }
-    let front = words.len();
-    for &Masks { member, pre, add, del } in &law.actions {
-        words.extend([member, pre, 0, add, del]);
-    }
-    for [action, fact] in pairs.into_iter().filter(|pair| pair[1] < 64) {
+    let holding = law.initial.iter().enumerate().filter(|(_, &holds)| holds);
+    let initial = holding.fold(0, |mask, (fact, _)| mask | bit::<M>(fact));
+    let mut waited = vec![0; actions];
+    for [action, fact] in pairs {
+        let waits_for = bit::<M>(fact as usize);
         if M::ACTIONS_COUNT_ON {
-            if let Some(wait) = words.get_mut(front + 5 * action as usize + 2) {
-                *wait |= 1 << fact;
+            if let Some(wait) = waited.get_mut(action as usize) {
+                *wait |= waits_for;
             }
             continue;
         }
@@ -514,25 +528,33 @@ fn told<M: Manner>(text: &[u8], waits: &[u8]) -> Result<Vec<u64>, u64> {
         for member in 0..members as u64 {
             let own = |row: &usize| law.actions[*row].member == member;
             if let Some(row) = (0..actions).filter(own).nth(action as usize) {
-                words[front + 5 * row + 2] |= 1 << fact;
+                waited[row] |= waits_for;
             }
         }
     }
-    match Task::check(&words) {
-        Err(6) if !M::WAITS_CHECKED => {
-            for row in words[front..].chunks_mut(5) {
-                row[2] &= row[1];
-            }
-            Ok(words)
+    if !M::WAITS_CHECKED {
+        for (wait, action) in waited.iter_mut().zip(&law.actions) {
+            *wait &= action.pre;
         }
-        Err(refusal) => Err(refusal),
-        Ok(_) => Ok(words),
     }
+    let row = |(action, &wait): (&Masks, &u128)| {
+        let &Masks { member, pre, add, del } = action;
+        [u128::from(member), pre, wait, add, del]
+    };
+    let told = law::Law {
+        facts,
+        initial,
+        goals: law.goals,
+        actions: law.actions.iter().zip(&waited).map(row).collect(),
+    };
+    let words = told.words();
+    Task::check(&words)?;
+    Ok(words)
 }
 
 /// The reader in this manner.
 pub fn read_by<M: Manner>(text: &[u8], waits: &[u8], words: &mut [u64]) -> Result<[u64; 1], u64> {
-    let room = if M::ROOM_OF_THE_TEXT { 1325 } else { 10 };
+    let room = if M::ROOM_OF_THE_TEXT { ROW * ROWS } else { 2 * ROW };
     if (M::ROOM_FIRST || M::ROOM_OF_THE_TEXT) && words.len() < room {
         return Err(14);
     }
@@ -550,7 +572,7 @@ pub fn read_by<M: Manner>(text: &[u8], waits: &[u8], words: &mut [u64]) -> Resul
             if M::CLEARS_BEYOND {
                 back.fill(0);
             }
-            Ok([told.len() as u64 / 5])
+            Ok([(told.len() / ROW) as u64])
         }
         Err(refusal) => {
             if M::CLEARS_REFUSED {
@@ -566,8 +588,8 @@ pub fn texts(words: &[u64]) -> Result<[Vec<u8>; 2], u64> {
     let task = Task::check(words)?;
     let put = "a vector takes every text";
     let (mut text, mut waits) = (Vec::new(), Vec::new());
-    let atoms = |text: &mut Vec<u8>, mask: u64, front: &str, back: &str| {
-        for fact in (0..64).filter(|fact| mask >> fact & 1 == 1) {
+    let atoms = |text: &mut Vec<u8>, mask: u128, front: &str, back: &str| {
+        for fact in (0..FACTS).filter(|fact| mask >> fact & 1 == 1) {
             write!(text, " {front}(f{fact}){back}").expect(put);
         }
     };
@@ -585,7 +607,7 @@ pub fn texts(words: &[u64]) -> Result<[Vec<u8>; 2], u64> {
             atoms(&mut text, action.add, "", "");
             atoms(&mut text, action.del, "(not ", ")");
             text.extend(b"))");
-            for fact in (0..64).filter(|fact| action.wait >> fact & 1 == 1) {
+            for fact in (0..FACTS).filter(|fact| action.wait >> fact & 1 == 1) {
                 write!(waits, "{count},{fact}\r\n").expect(put);
             }
             count += 1;

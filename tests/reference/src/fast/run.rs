@@ -2,7 +2,7 @@
 
 use super::solo::{entries, play};
 use super::{Action, Task};
-use crate::interface::{Ticket, CHANGE, LAST, RUN, SHARED};
+use crate::interface::{mask_of, mask_words, Ticket, CHANGE, LAST, RUN, SHARED};
 
 /// Checked plans: each member's part of the plan slice.
 pub struct Plans<'a>(pub Vec<&'a [u16]>);
@@ -51,7 +51,7 @@ pub fn outcome(
     task: &Task,
     plans: &Plans,
     places: &[usize; 8],
-    shared: u64,
+    shared: u128,
     collided: bool,
 ) -> Outcome {
     if collided {
@@ -80,7 +80,7 @@ pub fn joint_replay(
     plans: &[u16],
     ends: &[u64],
     picks: &[u8],
-) -> Result<[u64; 4], u64> {
+) -> Result<[u64; 5], u64> {
     let task = Task::check(task)?;
     let plans = Plans::check(&task, plans, ends)?;
     let mut places = [0; 8];
@@ -112,7 +112,8 @@ pub fn joint_replay(
         Outcome::Missed(member) => (3, member as u64),
         Outcome::Open => (4, 0),
     };
-    Ok([kind, member, done, shared])
+    let [low, high] = mask_words(shared);
+    Ok([kind, member, done, low, high])
 }
 
 /// A run that is handed in, on checked plans.
@@ -120,14 +121,14 @@ struct Held<'a> {
     task: Task,
     plans: Plans<'a>,
     places: [usize; 8],
-    shared: u64,
+    shared: u128,
     change: u32,
     collided: bool,
 }
 
 /// What a step would do.
 enum Next {
-    Go(u64),
+    Go(u128),
     Wait,
     Collision,
 }
@@ -136,7 +137,7 @@ impl<'a> Held<'a> {
     fn check(task: &[u64], plans: &'a [u16], ends: &[u64], run: &[u64]) -> Result<Held<'a>, u64> {
         let task = Task::check(task)?;
         let plans = Plans::check(&task, plans, ends)?;
-        let shared = run[SHARED];
+        let shared = mask_of(&run[SHARED..]);
         if shared & !task.known != 0 {
             return Err(4);
         }
@@ -196,7 +197,7 @@ impl<'a> Held<'a> {
         for (word, &place) in run[1..].iter_mut().zip(&self.places[..self.task.members()]) {
             *word = place as u64;
         }
-        run[SHARED] = self.shared;
+        run[SHARED..CHANGE].copy_from_slice(&mask_words(self.shared));
         run[CHANGE] = self.change as u64;
     }
 }
@@ -220,14 +221,15 @@ pub(super) fn ask(
     ends: &[u64],
     run: &[u64],
     member: u8,
-) -> Result<[u64; 4], u64> {
+) -> Result<[u64; 5], u64> {
     let held = Held::check(task, plans, ends, run)?;
     let (kind, shared) = match held.next(member)? {
         Next::Go(shared) => (0, shared),
         Next::Wait => (1, 0),
         Next::Collision => (2, 0),
     };
-    Ok([kind, shared, member as u64, held.change as u64])
+    let [low, high] = mask_words(shared);
+    Ok([kind, low, high, member as u64, held.change as u64])
 }
 
 pub(super) fn commit(
@@ -246,7 +248,7 @@ pub(super) fn commit(
 pub(super) fn start(task: &[u64], run: &mut [u64]) -> Result<[u64; 0], u64> {
     let task = Task::check(task)?;
     run[..RUN].fill(0);
-    run[SHARED] = task.initial;
+    run[SHARED..CHANGE].copy_from_slice(&mask_words(task.initial));
     Ok([])
 }
 

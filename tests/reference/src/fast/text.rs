@@ -1,9 +1,9 @@
 //! The text reader: one pass over the bytes.
 
 use super::Task;
+use crate::interface::{ROW, ROWS};
 
-const RECORDS: usize = 265;
-const WORDS: usize = 5 * RECORDS;
+const WORDS: usize = ROW * ROWS;
 
 /// The words of a text; none where the text is malformed.
 pub fn read_words(text: &[u8]) -> Option<Vec<u64>> {
@@ -20,8 +20,8 @@ pub fn read_words(text: &[u8]) -> Option<Vec<u64>> {
                     Some(value) => value.checked_mul(10)?.checked_add(digit)?,
                 });
             }
-            b',' if words.len() % 5 < 4 => words.push(field.take()?),
-            b'\r' if words.len() % 5 == 4 && bytes.next() == Some(b'\n') => {
+            b',' if words.len() % ROW < ROW - 1 => words.push(field.take()?),
+            b'\r' if words.len() % ROW == ROW - 1 && bytes.next() == Some(b'\n') => {
                 words.push(field.take()?);
             }
             _ => return None,
@@ -33,7 +33,7 @@ pub fn read_words(text: &[u8]) -> Option<Vec<u64>> {
     if let Some(last) = field {
         words.push(last);
     }
-    words.len().is_multiple_of(5).then_some(words)
+    words.len().is_multiple_of(ROW).then_some(words)
 }
 
 pub(super) fn read(text: &[u8], words: &mut [u64]) -> Result<[u64; 1], u64> {
@@ -44,5 +44,5 @@ pub(super) fn read(text: &[u8], words: &mut [u64]) -> Result<[u64; 1], u64> {
     words.fill(0);
     let read = checked?;
     words[..read.len()].copy_from_slice(&read);
-    Ok([read.len() as u64 / 5])
+    Ok([(read.len() / ROW) as u64])
 }

@@ -1,23 +1,55 @@
 //! Families of valid laws, small and at the limits.
 
 use super::{all, few, shuffle, some, Law};
+use crate::fast::Task;
+use crate::interface::FACTS;
 use crate::laws;
 use crate::random::Random;
 
 /// A small law, for which every operation is quick.
 pub fn small(random: &mut Random) -> Vec<u64> {
-    match random.below(12) {
-        0..=2 => tiny(random).words(),
-        3..=4 => any(random, 5, 3, 8).words(),
-        5..=6 => tokens(random, 3, 2).words(),
+    let law = match random.below(12) {
+        0..=2 => tiny(random),
+        3..=4 => any(random, 5, 3, 8),
+        5..=6 => tokens(random, 3, 2),
         7 => near_the_laws(random),
-        8 => chains(random, 3, 4).words(),
-        9..=10 => choices(random).words(),
+        8 => chains(random, 3, 4),
+        9..=10 => choices(random),
         _ => {
             let law = tokens(random, 2, 2);
-            widened(random, law, 16, 4, 16).words()
+            widened(random, law, 16, 4, 16)
         }
+    };
+    if random.chance(60) {
+        spread(random, law).words()
+    } else {
+        law.words()
     }
+}
+
+/// The same law among more facts, so that its own are bits of either word or of both.
+pub fn spread(random: &mut Random, law: Law) -> Law {
+    let places = places(random, law.facts);
+    law.at(places.len(), &places)
+}
+
+/// A number of facts, at least so many, and an order of them: those of a law take the first places.
+pub fn places(random: &mut Random, least: usize) -> Vec<usize> {
+    let edges = [63, 64, 65, 66, FACTS - 1, FACTS, FACTS, random.between(1, FACTS)];
+    let facts = random.one_of(&edges).max(least);
+    let mut places: Vec<usize> = (0..facts).collect();
+    match random.below(5) {
+        // The last facts, the last first.
+        0 => places.reverse(),
+        // The same bits of both words, one after the other.
+        1 => places.sort_by_key(|place| (place % 64, place / 64)),
+        // Beside the edge between the words.
+        2 => places.rotate_left(64usize.saturating_sub(least.div_ceil(2)).min(facts)),
+        // The first fact, then the last ones.
+        3 => places[1..].reverse(),
+        _ => shuffle(random, &mut places),
+    }
+    places
 }
 
 /// A law with at most 3 facts, 3 members and 4 actions, small enough for brute force.
@@ -32,11 +64,11 @@ pub fn at_the_limits(random: &mut Random) -> Vec<u64> {
         1 => ones(random).words(),
         2 => {
             let law = tokens(random, 3, 2);
-            widened(random, law, 64, 8, 256).words()
+            widened(random, law, FACTS, 8, 256).words()
         }
         3 => {
             let law = any(random, 6, 4, 12);
-            widened(random, law, 64, 8, 256).words()
+            widened(random, law, FACTS, 8, 256).words()
         }
         4 => counters(random.between(1, 4), random.between(1, 4)).words(),
         5 => {
@@ -44,7 +76,7 @@ pub fn at_the_limits(random: &mut Random) -> Vec<u64> {
                 if random.chance(10) { random.between(10, 13) } else { random.between(5, 9) };
             counters(1, bits).words()
         }
-        6 => chains(random, 8, 8).words(),
+        6 => chains(random, 8, 16).words(),
         7 => without_actions(random).words(),
         _ => {
             let law = tokens(random, 8, 1);
@@ -68,34 +100,33 @@ pub fn any(random: &mut Random, facts: usize, members: usize, actions: usize) ->
         actions: (0..actions)
             .map(|_| {
                 let pre = few(random, facts, 2);
-                let wait = if random.chance(50) { pre } else { pre & random.word() };
+                let wait = if random.chance(50) { pre } else { pre & random.mask() };
                 let (add, del) = (few(random, facts, 2), few(random, facts, 2));
-                [random.below(members) as u64, pre, wait, add, del]
+                [random.below(members) as u128, pre, wait, add, del]
             })
             .collect(),
     }
 }
 
 /// One of the paper's laws with some bits turned over.
-pub fn near_the_laws(random: &mut Random) -> Vec<u64> {
+pub fn near_the_laws(random: &mut Random) -> Law {
     let valid = laws::valid();
-    let mut words = valid[random.below(valid.len())].clone();
-    let facts = words[0] as usize;
-    let (goals, actions) = (words[1] as usize, words[2] as usize);
+    let mut law = Task::check(&valid[random.below(valid.len())]).expect("a law").law();
+    let (goals, actions) = (law.goals.len(), law.actions.len());
     for _ in 0..random.between(0, 3) {
-        let bit = 1 << random.below(facts);
+        let bit = 1 << random.below(law.facts);
         match random.below(4) {
-            0 => words[3] ^= bit,
-            1 => words[5 * random.between(1, goals) + 1] ^= bit,
+            0 => law.initial ^= bit,
+            1 => law.goals[random.below(goals)] ^= bit,
             _ if actions > 0 => {
-                let row = 5 * (1 + goals + random.below(actions));
-                words[row + random.between(1, 4)] ^= bit;
-                words[row + 2] &= words[row + 1];
+                let action = &mut law.actions[random.below(actions)];
+                action[random.between(1, 4)] ^= bit;
+                action[2] &= action[1];
             }
             _ => {}
         }
     }
-    words
+    law
 }
 
 /// Members who take tokens, one after another, work, and mostly give them back: locks with and
@@ -104,8 +135,8 @@ pub fn tokens(random: &mut Random, members: usize, tokens: usize) -> Law {
     let members = random.between(1, members);
     let tokens = random.between(1, tokens);
     let facts = tokens + members * (tokens + 1);
-    let token = |number: usize| 1u64 << number;
-    let held = |member: usize, number: usize| 1u64 << (tokens + member * (tokens + 1) + number);
+    let token = |number: usize| 1u128 << number;
+    let held = |member: usize, number: usize| 1u128 << (tokens + member * (tokens + 1) + number);
     let done = |member: usize| held(member, tokens);
     let mut law = Law { facts, initial: all(tokens), goals: vec![0; members], actions: Vec::new() };
     let careful = random.chance(50);
@@ -118,12 +149,12 @@ pub fn tokens(random: &mut Random, members: usize, tokens: usize) -> Law {
             let pre = holds | token(number);
             let wait = if careful || random.chance(70) { token(number) } else { 0 };
             let add = held(member, number);
-            law.actions.push([member as u64, pre, wait, add, token(number)]);
+            law.actions.push([member as u128, pre, wait, add, token(number)]);
             holds |= held(member, number);
             returns |= token(number);
         }
         let given = if careful || random.chance(70) { returns } else { 0 };
-        law.actions.push([member as u64, holds, 0, done(member) | given, holds]);
+        law.actions.push([member as u128, holds, 0, done(member) | given, holds]);
         law.goals[member] = match random.below(4) {
             0 => done(member),
             1 => 0,
@@ -132,7 +163,7 @@ pub fn tokens(random: &mut Random, members: usize, tokens: usize) -> Law {
         if random.chance(10) {
             // An action that undoes what another member may want.
             let undone = few(random, facts, 2);
-            law.actions.push([member as u64, done(member), 0, 0, undone]);
+            law.actions.push([member as u128, done(member), 0, 0, undone]);
         }
     }
     law
@@ -144,7 +175,7 @@ pub fn choices(random: &mut Random) -> Law {
     let members = random.between(2, 3);
     let shared = random.between(1, 2);
     let places = random.between(1, 4);
-    let place = |member: usize, number: usize| 1u64 << (shared + member * places + number);
+    let place = |member: usize, number: usize| 1u128 << (shared + member * places + number);
     let facts = shared + members * places;
     let mut law = Law { facts, initial: all(shared), goals: Vec::new(), actions: Vec::new() };
     let waits = random.one_of(&[0, 60, 90, 90]);
@@ -158,7 +189,7 @@ pub fn choices(random: &mut Random) -> Law {
             let takes = if random.chance(30) { few(random, shared, 2) } else { 0 };
             let gives = if random.chance(10) { few(random, shared, 2) } else { 0 };
             let [here, there] = [from, to].map(|number| place(member, number));
-            law.actions.push([member as u64, here | needs, wait, there | gives, here | takes]);
+            law.actions.push([member as u128, here | needs, wait, there | gives, here | takes]);
         };
         for to in 1..places {
             let from = random.below(to);
@@ -181,7 +212,7 @@ pub fn chains(random: &mut Random, members: usize, longest: usize) -> Law {
     chains_of(&lengths)
 }
 
-/// Chains of given lengths, with at most 64 points in all.
+/// Chains of given lengths, with at most 128 points in all.
 pub fn chains_of(lengths: &[usize]) -> Law {
     let mut law =
         Law { facts: lengths.iter().sum(), initial: 0, goals: Vec::new(), actions: Vec::new() };
@@ -190,7 +221,7 @@ pub fn chains_of(lengths: &[usize]) -> Law {
         law.initial |= 1 << begin;
         for point in begin + 1..begin + length {
             let (here, there) = (1 << (point - 1), 1 << point);
-            law.actions.push([member as u64, here, 0, there, here]);
+            law.actions.push([member as u128, here, 0, there, here]);
         }
         begin += length;
         law.goals.push(1 << (begin - 1));
@@ -203,11 +234,11 @@ pub fn counters(members: usize, facts: usize) -> Law {
     let mut law =
         Law { facts: members * facts, initial: 0, goals: Vec::new(), actions: Vec::new() };
     for member in 0..members {
-        let bits = (member * facts..(member + 1) * facts).map(|fact| 1u64 << fact);
+        let bits = (member * facts..(member + 1) * facts).map(|fact| 1u128 << fact);
         law.goals.push(bits.clone().sum());
         for bit in bits {
-            law.actions.push([member as u64, 0, 0, bit, 0]);
-            law.actions.push([member as u64, bit, 0, 0, bit]);
+            law.actions.push([member as u128, 0, 0, bit, 0]);
+            law.actions.push([member as u128, bit, 0, 0, bit]);
         }
     }
     law
@@ -222,26 +253,29 @@ fn one_fact(random: &mut Random) -> Law {
     law
 }
 
-/// F = 64 and words of all ones wherever they may stand.
+/// F = 64 or 128, and words of all ones wherever they may stand.
 fn ones(random: &mut Random) -> Law {
-    let mask = |random: &mut Random| random.one_of(&[u64::MAX, u64::MAX, 0, 1, 1 << 63]);
+    let facts = random.one_of(&[64, FACTS, FACTS]);
+    let (low, edges) = (all(64), [1 << 63, 1 << 64, 1 << 127]);
+    let masks = [u128::MAX, u128::MAX, low, !low, 0, 1, edges[0], edges[1], edges[2]];
+    let mask = |random: &mut Random| random.one_of(&masks) & all(facts);
     let members = random.one_of(&[1, 2, 8]);
     let actions = random.one_of(&[0, 1, 4, 256]);
-    let mut law = Law { facts: 64, initial: mask(random), goals: vec![], actions: vec![] };
+    let mut law = Law { facts, initial: mask(random), goals: vec![], actions: vec![] };
     for _ in 0..members {
         law.goals.push(mask(random));
     }
     for _ in 0..actions {
         let pre = mask(random);
         let wait = mask(random) & pre;
-        let row = [random.below(members) as u64, pre, wait, mask(random), mask(random)];
+        let row = [random.below(members) as u128, pre, wait, mask(random), mask(random)];
         law.actions.push(row);
     }
     law
 }
 
 fn without_actions(random: &mut Random) -> Law {
-    let facts = random.one_of(&[1, 2, 63, 64]);
+    let facts = random.one_of(&[1, 2, 63, 64, 65, 127, FACTS]);
     let initial = some(random, facts);
     let members = random.one_of(&[1, 7, 8]);
     let reached = random.chance(70);
@@ -263,38 +297,22 @@ pub fn widened(random: &mut Random, law: Law, facts: usize, members: usize, acti
     let facts = facts.max(law.facts);
     let mut places: Vec<usize> = (0..facts).collect();
     shuffle(random, &mut places);
-    let moved = |mask: u64| {
-        (0..law.facts)
-            .filter(|fact| mask >> fact & 1 == 1)
-            .fold(0, |new, fact| new | 1 << places[fact])
-    };
-    let unused = places[law.facts..].iter().fold(0u64, |mask, place| mask | 1 << place);
-    let start = moved(law.initial);
-    let mut wide = Law {
-        facts,
-        initial: start,
-        goals: law.goals.iter().map(|&goal| moved(goal)).collect(),
-        actions: law
-            .actions
-            .iter()
-            .map(|&[member, pre, wait, add, del]| {
-                [member, moved(pre), moved(wait), moved(add), moved(del)]
-            })
-            .collect(),
-    };
+    let unused = places[law.facts..].iter().fold(0, |mask, place| mask | 1 << place);
+    let mut wide = law.at(facts, &places);
+    let start = wide.initial;
     while wide.goals.len() < members {
         wide.goals.push(if random.chance(90) { 0 } else { start });
     }
     let given = wide.actions.clone();
     while wide.actions.len() < actions {
-        let member = random.below(wide.goals.len()) as u64;
+        let member = random.below(wide.goals.len()) as u128;
         let row = match random.below(10) {
             0 if !given.is_empty() => random.one_of(&given),
             1 => [member, 0, 0, 0, 0],
             _ if unused != 0 => {
-                let pre = unused & random.word();
+                let pre = unused & random.mask();
                 let add = if pre == 0 { 0 } else { some(random, facts) };
-                [member, pre, pre & random.word(), add, if pre == 0 { 0 } else { all(facts) }]
+                [member, pre, pre & random.mask(), add, if pre == 0 { 0 } else { all(facts) }]
             }
             _ => [member, start, 0, start, 0],
         };

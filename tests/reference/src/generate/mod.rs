@@ -8,49 +8,23 @@ pub mod plans;
 pub mod sizes;
 pub mod text;
 
+pub use crate::law::{all, Law};
 use crate::random::Random;
 
-/// A law in parts, before it is laid out in words.
-#[derive(Clone, Debug)]
-pub struct Law {
-    pub facts: usize,
-    pub initial: u64,
-    pub goals: Vec<u64>,
-    /// Rows of an action: member, pre, wait, add, del.
-    pub actions: Vec<[u64; 5]>,
-}
-
-impl Law {
-    /// All its facts.
-    pub fn known(&self) -> u64 {
-        all(self.facts)
-    }
-
-    /// The task's words.
-    pub fn words(&self) -> Vec<u64> {
-        let sizes = [self.facts, self.goals.len(), self.actions.len()].map(|size| size as u64);
-        let mut words = vec![sizes[0], sizes[1], sizes[2], self.initial, 0];
-        for (member, &goal) in self.goals.iter().enumerate() {
-            words.extend([member as u64, goal, 0, 0, 0]);
-        }
-        words.extend(self.actions.iter().flatten());
-        words
-    }
-}
-
 /// A mask of up to `most` of the first `facts` facts.
-pub fn few(random: &mut Random, facts: usize, most: usize) -> u64 {
+pub fn few(random: &mut Random, facts: usize, most: usize) -> u128 {
     (0..random.between(0, most)).fold(0, |mask, _| mask | 1 << random.below(facts))
 }
 
-/// All of the first `facts` facts.
-pub fn all(facts: usize) -> u64 {
-    u64::MAX >> (64 - facts)
-}
-
-/// Any number of the first `facts` facts.
-pub fn some(random: &mut Random, facts: usize) -> u64 {
-    random.word() & all(facts)
+/// Any number of the first `facts` facts; where a mask has bits in both words, at times in one of
+/// them alone.
+pub fn some(random: &mut Random, facts: usize) -> u128 {
+    let mask = random.mask() & all(facts);
+    match random.below(6) {
+        0 if facts > 64 => mask & all(64),
+        1 if facts > 64 => mask & !all(64),
+        _ => mask,
+    }
 }
 
 /// Any order of the items.

@@ -1,6 +1,8 @@
 //! Laws in PDDL with any spelling, and damage to them: to what they mean, by piece and by byte.
 
-use super::{families, shuffle, text};
+use super::{families, shuffle, text, Law};
+use crate::fast::Task;
+use crate::interface::FACTS;
 use crate::random::Random;
 
 /// A condition or an effect.
@@ -148,7 +150,7 @@ pub fn nested(condition: Condition, depth: usize) -> Condition {
     (0..depth).fold(condition, |inner, _| Condition::And(vec![inner]))
 }
 
-fn atoms(names: &[String], mask: u64, negated: bool) -> Vec<Condition> {
+fn atoms(names: &[String], mask: u128, negated: bool) -> Vec<Condition> {
     let name = |(_, name): (usize, &String)| {
         if negated {
             Condition::Not(name.clone())
@@ -161,31 +163,32 @@ fn atoms(names: &[String], mask: u64, negated: bool) -> Vec<Condition> {
 
 /// A law in PDDL for an accepted task's words, with any names and any shape of conditions.
 pub fn of_words(random: &mut Random, words: &[u64]) -> Draft {
-    let count = words[1] as usize;
-    let predicates = names(random, words[0] as usize);
-    let rows: Vec<&[u64]> = words.chunks(5).collect();
+    let Law { facts, initial: start, goals, actions } =
+        Task::check(words).expect("an accepted task").law();
+    let count = goals.len();
+    let predicates = names(random, facts);
     let deepest = random.one_of(&[1, 1, 2, 4, 16]);
     let mut draft = Draft { members: Vec::new(), waits: Vec::new() };
     let titles = names(random, count);
     let shared = random.chance(20);
     let mut number = 0;
     for member in 0..count {
-        let own: Vec<&[u64]> =
-            rows[1 + count..].iter().copied().filter(|row| row[0] == member as u64).collect();
+        let own: Vec<&[u128; 5]> =
+            actions.iter().filter(|action| action[0] == member as u128).collect();
         let called = names(random, own.len());
-        let mut actions = Vec::new();
-        for (row, name) in own.iter().zip(called) {
-            for fact in (0..64).filter(|fact| row[2] >> fact & 1 == 1) {
+        let mut written = Vec::new();
+        for (&&[_, pre, wait, add, del], name) in own.iter().zip(called) {
+            for fact in (0..FACTS).filter(|fact| wait >> fact & 1 == 1) {
                 draft.waits.push(vec![number.to_string(), fact.to_string()]);
             }
             number += 1;
-            let pre = condition(random, atoms(&predicates, row[1], false), deepest);
-            let mut effects = atoms(&predicates, row[3], false);
-            effects.extend(atoms(&predicates, row[4], true));
+            let pre = condition(random, atoms(&predicates, pre, false), deepest);
+            let mut effects = atoms(&predicates, add, false);
+            effects.extend(atoms(&predicates, del, true));
             let effect = condition(random, effects, deepest);
-            actions.push(Action { name, pre, effect });
+            written.push(Action { name, pre, effect });
         }
-        let mut initial: Vec<String> = atoms(&predicates, words[3], false)
+        let mut initial: Vec<String> = atoms(&predicates, start, false)
             .into_iter()
             .map(|atom| match atom {
                 Condition::Atom(name) => name,
@@ -201,10 +204,10 @@ pub fn of_words(random: &mut Random, words: &[u64]) -> Draft {
             of: domain.clone(),
             domain,
             predicates: predicates.clone(),
-            actions,
+            actions: written,
             problem: any_word_name(random),
             initial,
-            goal: condition(random, atoms(&predicates, rows[1 + member][1], false), deepest),
+            goal: condition(random, atoms(&predicates, goals[member], false), deepest),
         });
     }
     match random.below(4) {
@@ -296,7 +299,8 @@ fn once(random: &mut Random, draft: &mut Draft) {
             draft.waits.push(wait.map(|number| number.to_string()).to_vec());
         }
         20 => {
-            let big = random.one_of(&["64", "256", "257", "18446744073709551615", "4294967296"]);
+            let big =
+                random.one_of(&["64", "128", "256", "257", "18446744073709551615", "4294967296"]);
             draft.waits.insert(0, vec![big.to_string(), big.to_string()]);
         }
         21 => {
@@ -805,7 +809,7 @@ pub fn any_text(random: &mut Random) -> (Vec<u8>, Vec<u8>) {
 
 /// Both sides of every limit.
 fn at_the_limits(random: &mut Random) -> Draft {
-    let facts = random.one_of(&[0, 1, 63, 64, 65, 66, 130]);
+    let facts = random.one_of(&[0, 1, 63, 64, 65, 127, 128, 129, 130, 258]);
     let members = random.one_of(&[1, 1, 2, 7, 8, 9, 10, 17]);
     let actions = random.one_of(&[0, 1, 255, 256, 257, 258, 520]);
     // One at its edge, the others mostly small, so that each refusal is met alone too.

@@ -2,7 +2,7 @@
 
 use crate::fast::{copies, outcome, Copies, Outcome, Plans, Task};
 use crate::generate::contents;
-use crate::interface::{Ticket, CHANGE, LAST, RUN, SHARED};
+use crate::interface::{mask_words, Ticket, CHANGE, LAST, RUN, SHARED};
 use crate::random::Random;
 
 /// The most local copies that are listed to find plans.
@@ -194,7 +194,7 @@ impl Planner {
         (!found.is_empty()).then(|| random.one_of(&found))
     }
 
-    /// A run of eleven words: one that picks lead to, or any at all, at any change number.
+    /// A run of twelve words: one that picks lead to, or any at all, at any change number.
     pub fn run(&self, random: &mut Random, bundle: &Bundle) -> Vec<u64> {
         let mut run = Player::start(&self.task);
         if let Ok(plans) = Plans::check(&self.task, &bundle.plans, &bundle.ends) {
@@ -208,7 +208,7 @@ impl Planner {
         for (word, place) in words[1..SHARED].iter_mut().zip(run.places) {
             *word = place as u64;
         }
-        words[SHARED] = run.shared;
+        put_shared(&mut words, run.shared);
         words[CHANGE] = change_word(random);
         for percent in [40, 30] {
             if random.chance(percent) {
@@ -221,13 +221,15 @@ impl Planner {
     /// Odd places, shared copies and marks of a collision.
     fn spoil_run(&self, random: &mut Random, words: &mut [u64]) {
         let members = self.task.members();
-        match random.below(8) {
+        match random.below(9) {
             0 => words[0] = random.one_of(&[1, 2, u64::MAX, 1 << 63]),
-            1 | 2 => words[SHARED] = random.word() & self.task.known,
+            1 | 2 => put_shared(words, random.mask() & self.task.known),
             3 => {
-                let above = [u64::MAX, self.task.known.wrapping_add(1), 1 << 63];
-                words[SHARED] = random.one_of(&above);
+                let known = self.task.known;
+                let above = [u128::MAX, known.wrapping_add(1), 1 << 127, known | 1 << 64];
+                put_shared(words, random.one_of(&above));
             }
+            8 => words.swap(SHARED, SHARED + 1),
             4 => {
                 words[1 + random.below(members)] =
                     random.one_of(&[u64::MAX, 1 << 32, 1 << 63, 1000])
@@ -249,6 +251,19 @@ impl Planner {
             }
         }
     }
+}
+
+/// Writes the shared copy of a run.
+pub fn put_shared(run: &mut [u64], shared: u128) {
+    run[SHARED..CHANGE].copy_from_slice(&mask_words(shared));
+}
+
+/// A run at its start, at a change number.
+pub fn run_at_start(initial: u128, change: u32) -> Vec<u64> {
+    let mut run = vec![0; RUN];
+    put_shared(&mut run, initial);
+    run[CHANGE] = u64::from(change);
+    run
 }
 
 /// A change number: mostly one of the first or the last.
@@ -313,7 +328,7 @@ fn spoil_ends(random: &mut Random, bundle: &mut Bundle) {
 /// A run while picks are made up.
 struct Player {
     places: [usize; 8],
-    shared: u64,
+    shared: u128,
     collided: bool,
 }
 

@@ -1,8 +1,10 @@
 //! Laws made for a size: as many facts, members, actions, copies, configurations, steps or picks as
 //! asked.
 
+use super::families::places;
 use super::{all, shuffle, some, Law};
 use crate::fast::{copies, Task};
+use crate::interface::FACTS;
 use crate::random::Random;
 use std::collections::BTreeSet;
 
@@ -17,7 +19,7 @@ pub fn sizes(most: usize) -> Vec<usize> {
 pub fn beside(laws: &[Law]) -> Law {
     let mut joined = Law { facts: 0, initial: 0, goals: Vec::new(), actions: Vec::new() };
     for law in laws {
-        let (facts, members) = (joined.facts, joined.goals.len() as u64);
+        let (facts, members) = (joined.facts, joined.goals.len() as u128);
         joined.initial |= law.initial << facts;
         joined.goals.extend(law.goals.iter().map(|goal| goal << facts));
         joined.actions.extend(law.actions.iter().map(|&[member, pre, wait, add, del]| {
@@ -43,35 +45,22 @@ pub fn scattered(random: &mut Random, law: Law, facts: usize) -> Law {
     let facts = facts.max(law.facts);
     let mut places: Vec<usize> = (0..facts).collect();
     shuffle(random, &mut places);
-    let moved = |mask: u64| {
-        (0..law.facts)
-            .filter(|fact| mask >> fact & 1 == 1)
-            .fold(0, |new, fact| new | 1 << places[fact])
-    };
-    let row = |&[member, pre, wait, add, del]: &[u64; 5]| {
-        [member, moved(pre), moved(wait), moved(add), moved(del)]
-    };
-    Law {
-        facts,
-        initial: moved(law.initial),
-        goals: law.goals.iter().map(|&goal| moved(goal)).collect(),
-        actions: law.actions.iter().map(row).collect(),
-    }
+    law.at(facts, &places)
 }
 
 /// One member who counts up in base two: `rows` local copies, each led to by the one before alone.
 /// The goal is the last of them. Bit k of the count is fact 2k + 1, and fact 2k where it is 0.
 pub fn odometer(rows: usize) -> Law {
     let bits = rows.next_power_of_two().trailing_zeros().max(1) as usize;
-    let zero = |bit: usize| 1u64 << (2 * bit);
-    let one = |bit: usize| 1u64 << (2 * bit + 1);
+    let zero = |bit: usize| 1u128 << (2 * bit);
+    let one = |bit: usize| 1u128 << (2 * bit + 1);
     let state = |count: usize| {
         let fact = |bit: usize| if count >> bit & 1 == 1 { one(bit) } else { zero(bit) };
         (0..bits).map(fact).sum()
     };
     let actions = (0..bits)
         .map(|bit| {
-            let (ones, zeros): (u64, u64) = ((0..bit).map(one).sum(), (0..bit).map(zero).sum());
+            let (ones, zeros): (u128, u128) = ((0..bit).map(one).sum(), (0..bit).map(zero).sum());
             [0, zero(bit) | ones, 0, one(bit) | zeros, zero(bit) | ones]
         })
         .collect();
@@ -99,7 +88,7 @@ pub enum Fault {
 /// before.
 pub fn fault_after(picks: usize, fault: Fault) -> Law {
     let mut law = odometer(picks);
-    let [shared, done, ready, reached] = [0, 1, 2, 3].map(|fact| 1u64 << (law.facts + fact));
+    let [shared, done, ready, reached] = [0, 1, 2, 3].map(|fact| 1u128 << (law.facts + fact));
     let counted = law.goals[0];
     law.facts += 4;
     law.initial |= shared | ready;
@@ -118,7 +107,7 @@ pub fn fault_after(picks: usize, fault: Fault) -> Law {
 /// picks of a conflict are few and its plans are long.
 pub fn fault_before(steps: usize, fault: Fault) -> Law {
     let mut law = odometer(steps + 1);
-    let [shared, fresh, begun, taken] = [0, 1, 2, 3].map(|fact| 1u64 << (law.facts + fact));
+    let [shared, fresh, begun, taken] = [0, 1, 2, 3].map(|fact| 1u128 << (law.facts + fact));
     law.facts += 4;
     law.initial |= shared | fresh;
     for action in &mut law.actions {
@@ -135,28 +124,44 @@ pub fn fault_before(steps: usize, fault: Fault) -> Law {
 /// each of them can take away, can need and can wait for.
 pub struct Turns {
     pub law: Law,
+    /// The fact that is shared.
+    pub shared: u128,
+    /// Each member's own.
+    pub own: Vec<u128>,
 }
 
 impl Turns {
+    /// With the first facts.
     pub fn new(members: usize) -> Turns {
-        let shared = 1 << members;
+        Turns::at(members, &(0..=members).collect::<Vec<usize>>())
+    }
+
+    /// With any facts, up to the last.
+    pub fn anywhere(random: &mut Random, members: usize) -> Turns {
+        Turns::at(members, &places(random, members + 1))
+    }
+
+    /// With as many facts as there are places: each member's own, then the shared one, at the first
+    /// of them.
+    fn at(members: usize, places: &[usize]) -> Turns {
+        let (own, shared) = (&places[..members], 1 << places[members]);
+        let own: Vec<u128> = own.iter().map(|place| 1 << place).collect();
         let mut law = Law {
-            facts: members + 1,
+            facts: places.len(),
             initial: shared,
             goals: vec![0; members],
             actions: Vec::new(),
         };
-        for member in 0..members {
-            let own = 1 << member;
+        for (member, &own) in own.iter().enumerate() {
             law.actions.extend([
-                [member as u64, 0, 0, own, 0],
-                [member as u64, own, 0, 0, own],
-                [member as u64, 0, 0, 0, shared],
-                [member as u64, shared, 0, 0, 0],
-                [member as u64, shared, shared, 0, 0],
+                [member as u128, 0, 0, own, 0],
+                [member as u128, own, 0, 0, own],
+                [member as u128, 0, 0, 0, shared],
+                [member as u128, shared, 0, 0, 0],
+                [member as u128, shared, shared, 0, 0],
             ]);
         }
-        Turns { law }
+        Turns { law, shared, own }
     }
 
     /// So many steps that turn the member's fact on and off.
@@ -181,7 +186,7 @@ impl Turns {
 
     /// The member wants the shared fact in the end.
     pub fn wants(&mut self, member: usize) {
-        self.law.goals[member] = 1 << self.law.goals.len();
+        self.law.goals[member] = self.shared;
     }
 }
 
@@ -204,24 +209,40 @@ pub fn last_fact(random: &mut Random, facts: usize) -> Law {
     Law { facts, initial, goals: vec![last], actions }
 }
 
+/// A law of `facts` facts and two members in which the last fact decides. Member 0 takes it away,
+/// then adds it again, which it needs to be gone for; member 1 needs it, or waits for it, or wants
+/// it.
+pub fn last_fact_of_two(random: &mut Random, facts: usize) -> Law {
+    let last = 1 << (facts - 1);
+    let initial = some(random, facts) | last;
+    let wait = random.one_of(&[0, last]);
+    Law {
+        facts,
+        initial,
+        goals: vec![last, random.one_of(&[0, last])],
+        actions: vec![[0, last, 0, 0, last], [0, 0, 0, last, 0], [1, last, wait, 0, 0]],
+    }
+}
+
 /// Members of whom the last alone has no plan.
 pub fn last_unsolvable(members: usize) -> Law {
     let mut goals = vec![1; members - 1];
     goals.push(2);
-    Law { facts: 2, initial: 1, goals, actions: vec![[members as u64 - 1, 1, 0, 1, 0]] }
+    Law { facts: 2, initial: 1, goals, actions: vec![[members as u128 - 1, 1, 0, 1, 0]] }
 }
 
-/// A law of 64 facts, one member and no action whose initial mask has so many digits.
+/// A law of 128 facts, one member and no action, with a word of its initial mask of so many digits.
 pub fn digits(random: &mut Random, digits: u32) -> Law {
     let least = 10u64.pow(digits - 1);
     let most = least.checked_mul(10).map_or(u64::MAX, |next| next - 1);
-    let initial = least + random.word() % (most - least + 1);
-    Law { facts: 64, initial, goals: vec![initial], actions: Vec::new() }
+    let word = u128::from(least + random.word() % (most - least + 1));
+    let initial = word << random.one_of(&[0, 64]);
+    Law { facts: FACTS, initial, goals: vec![initial], actions: Vec::new() }
 }
 
 /// The same law with `actions` actions: before its own stand some that need what nobody adds.
 pub fn padded(law: Law, actions: usize) -> Law {
-    let (never, own) = (1u64 << law.facts, law.actions.len());
+    let (never, own) = (1u128 << law.facts, law.actions.len());
     let unused = (own..actions).map(|_| [0, never, 0, never, never]);
     Law {
         facts: law.facts + 1,
@@ -289,7 +310,7 @@ pub fn zigzag(counts: usize) -> Law {
 }
 
 /// The copy of the only member of a law that stands in a row.
-fn copy_at(law: &Law, row: usize) -> u64 {
+fn copy_at(law: &Law, row: usize) -> u128 {
     let task = Task::check(&law.words()).expect("a law");
     copies(&task, 0, usize::MAX).expect("any number of rows").rows[row]
 }
@@ -356,15 +377,15 @@ impl Tree {
 /// each member does nothing, so every row leads to itself too.
 pub fn forest(trees: &[Tree]) -> Law {
     let depth = trees.iter().map(Tree::depth).max().unwrap_or(0);
-    let level = |number: usize| 1u64 << number;
-    let bit = |number: usize, one: usize| 1u64 << (depth + 1 + 2 * number + one);
-    let end = |digit: usize| 1u64 << (3 * depth + 1 + digit);
-    let [home, never] = [0, 1].map(|fact| 1u64 << (4 * depth + 2 + fact));
+    let level = |number: usize| 1u128 << number;
+    let bit = |number: usize, one: usize| 1u128 << (depth + 1 + 2 * number + one);
+    let end = |digit: usize| 1u128 << (3 * depth + 1 + digit);
+    let [home, never] = [0, 1].map(|fact| 1u128 << (4 * depth + 2 + fact));
     let facts = 4 * depth + 4;
     let initial = level(0) | home;
     let mut law = Law { facts, initial, goals: vec![home; trees.len()], actions: Vec::new() };
     for (member, tree) in trees.iter().enumerate() {
-        let (number, own) = (member as u64, tree.depth());
+        let (number, own) = (member as u128, tree.depth());
         // Who wants nothing else leaves home by its first step.
         let left = if tree.wants == Wants::First { home } else { 0 };
         let mut rows = Vec::new();
@@ -376,7 +397,7 @@ pub fn forest(trees: &[Tree]) -> Law {
         }
         let rest = tree.rows + 1 - (2 << own);
         for digit in (0..=own).filter(|digit| rest >> digit & 1 == 1) {
-            let ones: u64 = (0..own - digit).map(|at| bit(at, 1)).sum();
+            let ones: u128 = (0..own - digit).map(|at| bit(at, 1)).sum();
             let del = level(own) | if own == 0 { left } else { 0 };
             rows.push([number, level(own) | ones, 0, end(digit), del]);
             if tree.back == Back::FromEnds {
@@ -405,16 +426,16 @@ pub fn tree(rows: usize, wants: Wants, back: Back) -> Law {
     forest(&[Tree { rows, wants, back }])
 }
 
-/// A law of so many records and 64 facts, with any masks of the first `used` of them.
+/// A law of so many records and 128 facts, with any masks of the first `used` of them.
 pub fn records(random: &mut Random, records: usize, used: usize) -> Law {
     let members = random.between(1, (records - 1).min(8)).max((records - 1).saturating_sub(256));
     let mask = |random: &mut Random| some(random, used);
     let row = |random: &mut Random| {
         let pre = mask(random);
-        [random.below(members) as u64, pre, pre & mask(random), mask(random), mask(random)]
+        [random.below(members) as u128, pre, pre & mask(random), mask(random), mask(random)]
     };
     Law {
-        facts: 64,
+        facts: FACTS,
         initial: mask(random),
         goals: (0..members).map(|_| mask(random)).collect(),
         actions: (0..records - 1 - members).map(|_| row(random)).collect(),

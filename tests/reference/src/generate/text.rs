@@ -1,12 +1,13 @@
 //! Tasks as text, and damage to texts.
 
+use crate::interface::ROW;
 use crate::random::Random;
 use std::fmt::Write;
 
-/// Words as records of five fields, each ended by CR LF.
+/// Words as records of nine fields, each ended by CR LF.
 pub fn of_words(words: &[u64]) -> String {
     let mut text = String::new();
-    for record in words.chunks(5) {
+    for record in words.chunks(ROW) {
         for (field, word) in record.iter().enumerate() {
             let comma = if field == 0 { "" } else { "," };
             write!(text, "{comma}{word}").expect("a string takes every text");
@@ -19,7 +20,7 @@ pub fn of_words(words: &[u64]) -> String {
 /// Damages a text, or leaves it as it is in another allowed form.
 pub fn damage(random: &mut Random, text: &mut Vec<u8>) {
     let at = |random: &mut Random, text: &[u8]| random.below(text.len() + 1);
-    match random.below(16) {
+    match random.below(17) {
         0 => {
             // The last record may lack its CR LF.
             text.truncate(text.len().saturating_sub(2));
@@ -84,13 +85,23 @@ pub fn damage(random: &mut Random, text: &mut Vec<u8>) {
                 text.truncate(text.len() - 2);
             }
             for _ in kept.len()..records {
-                text.extend(b"\r\n0,0,0,0,0");
+                text.extend(b"\r\n0,0,0,0,0,0,0,0,0");
             }
             if random.chance(50) {
                 text.extend(b"\r\n");
             }
         }
-        14 => text.splice(0..0, *b"facts,members,actions,initial,zero\r\n").for_each(drop),
+        14 => text.splice(0..0, *b"facts,members,actions,0,0,0,0,0,0\r\n").for_each(drop),
+        15 => {
+            // Records of fewer fields: of five they were before laws had 128 facts.
+            let fields = random.one_of(&[5, 5, 5, 8]);
+            let short = |line: Vec<u8>| {
+                let kept: Vec<&[u8]> = line.split(|&byte| byte == b',').take(fields).collect();
+                kept.join(&b","[..])
+            };
+            let records: Vec<Vec<u8>> = lines(text).into_iter().map(short).collect();
+            *text = records.join(&b"\r\n"[..]);
+        }
         _ => text.splice(0..0, *b"\r\n").for_each(drop),
     }
 }

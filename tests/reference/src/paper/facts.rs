@@ -2,22 +2,29 @@
 
 use std::collections::BTreeSet;
 
+/// Words of a mask, low word first.
+pub const MASK: usize = 2;
+
 /// A set of facts: a state, a goal, or a part of an action.
 #[derive(Clone, Debug, Default, PartialEq, Eq, PartialOrd, Ord)]
 pub struct Facts(BTreeSet<u64>);
 
 impl Facts {
-    /// The facts whose bits stand in a word: bit f has the value 2^f.
-    pub fn of_word(word: u64) -> Facts {
+    /// The facts whose bits stand in two words, low word first: bit f of the first stands for fact
+    /// f, bit f of the second for fact 64 + f.
+    pub fn of_words(words: &[u64]) -> Facts {
         let mut facts = BTreeSet::new();
-        let mut rest = word;
-        let mut fact = 0;
-        while rest > 0 {
-            if rest % 2 == 1 {
-                facts.insert(fact);
+        let [low, high] = words else { panic!("a mask is two words") };
+        for (word, first) in [(low, 0), (high, 64)] {
+            let mut rest = *word;
+            let mut fact = first;
+            while rest > 0 {
+                if rest % 2 == 1 {
+                    facts.insert(fact);
+                }
+                rest /= 2;
+                fact += 1;
             }
-            rest /= 2;
-            fact += 1;
         }
         Facts(facts)
     }
@@ -32,9 +39,14 @@ impl Facts {
         self.0.iter().copied()
     }
 
-    /// The word that stands for the set.
-    pub fn word(&self) -> u64 {
-        self.0.iter().map(|&fact| 2u64.pow(fact as u32)).sum()
+    /// The two words that stand for the set.
+    pub fn words(&self) -> [u64; MASK] {
+        let sum = |facts: &mut dyn Iterator<Item = u64>| {
+            facts.map(|fact| 2u64.pow(fact as u32)).sum::<u64>()
+        };
+        let low = sum(&mut self.numbers().filter(|&fact| fact < 64));
+        let high = sum(&mut self.numbers().filter(|&fact| fact >= 64).map(|fact| fact - 64));
+        [low, high]
     }
 
     /// Every fact of this set is in the other.

@@ -1,6 +1,7 @@
 //! The operations as the C interface lends them: a refusal number or 0, and the answer's numbers in
 //! `out`. The verdict stands apart, with its many slices.
 
+use super::facts::MASK;
 use super::run::{self, Outcome, Pick};
 use super::solo::{self, Found, Replay};
 use super::step::{self, Step};
@@ -31,19 +32,29 @@ pub fn verdict_numbers(class: &Class) -> [u64; 3] {
     }
 }
 
+/// The numbers of a step's answer: its kind, and the two words of the new shared copy.
+fn step_numbers(answer: &Step) -> [u64; out_length::STEP] {
+    match answer {
+        Step::Go(new) => {
+            let [low, high] = new.words();
+            [0, low, high]
+        }
+        Step::Wait => [1, 0, 0],
+        Step::Collision => [2, 0, 0],
+    }
+}
+
 pub fn task(words: &[u64]) -> u64 {
     task::check(words).err().unwrap_or(0)
 }
 
 pub fn step(words: &[u64], action: u16, shared: &[u64], out: &mut [u64]) -> u64 {
-    if out.len() < out_length::STEP || shared.len() != 1 {
+    if out.len() < out_length::STEP || shared.len() != MASK {
         return TOO_SHORT;
     }
-    match step::step_by_number(words, action, shared[0]) {
+    match step::step_by_number(words, action, shared) {
         Err(refusal) => refusal,
-        Ok(Step::Go(new)) => give(out, &[0, new.word()]),
-        Ok(Step::Wait) => give(out, &[1, 0]),
-        Ok(Step::Collision) => give(out, &[2, 0]),
+        Ok(answer) => give(out, &step_numbers(&answer)),
     }
 }
 
@@ -91,7 +102,8 @@ pub fn joint_replay(
         Err(refusal) => refusal,
         Ok(replay) => {
             let (kind, member) = outcome_numbers(replay.outcome);
-            give(out, &[kind, member, replay.done as u64, replay.shared.word()])
+            let [low, high] = replay.shared.words();
+            give(out, &[kind, member, replay.done as u64, low, high])
         }
     }
 }
@@ -128,12 +140,8 @@ pub fn ask(
     match run::ask(words, plans, ends, &run[..RUN], member) {
         Err(refusal) => refusal,
         Ok((answer, Ticket { member, change })) => {
-            let (kind, new) = match answer {
-                Step::Go(new) => (0, new.word()),
-                Step::Wait => (1, 0),
-                Step::Collision => (2, 0),
-            };
-            give(out, &[kind, new, member as u64, change as u64])
+            let [kind, low, high] = step_numbers(&answer);
+            give(out, &[kind, low, high, member as u64, change as u64])
         }
     }
 }

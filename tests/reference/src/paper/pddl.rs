@@ -3,7 +3,7 @@
 //! at, so that the refusals come in the written order by themselves.
 
 use super::facts::Facts;
-use super::task::{check, Task, ROW};
+use super::task::{check, Task, ACTIONS, FACTS, MEMBERS, ROW};
 use super::text;
 use super::Refusal;
 use std::collections::{BTreeMap, BTreeSet};
@@ -11,9 +11,6 @@ use std::fmt::Write;
 
 /// The most `and`s around a place.
 pub const DEEPEST: usize = 16;
-
-/// The most facts, members and actions of a task.
-const MOST: [usize; 3] = [64, 8, 256];
 
 /// A piece of the text. Words ignore letter case, so a word is kept in small letters.
 #[derive(Clone, Debug, PartialEq)]
@@ -300,32 +297,33 @@ pub fn words(text: &[u8], waits: &[u8]) -> Result<Vec<u64>, Refusal> {
     let first = &members[0];
     let actions: usize = members.iter().map(|member| member.actions.len()).sum();
     let sizes = [first.predicates.len(), members.len(), actions];
-    if sizes.iter().zip(MOST).any(|(&size, most)| size > most) {
+    if sizes.iter().zip([FACTS, MEMBERS, ACTIONS]).any(|(&size, most)| size as u64 > most) {
         return Err(18);
     }
     let numbers = numbers(&first.predicates).expect("each is named once");
     let mask = |names: &mut dyn Iterator<Item = &String>| {
-        Facts::of_numbers(names.map(|name| numbers[name.as_str()] as u64)).word()
+        Facts::of_numbers(names.map(|name| numbers[name.as_str()] as u64)).words()
     };
     let part = |atoms: &[Atom], negated: bool| {
         mask(&mut atoms.iter().filter(|atom| atom.negated == negated).map(|atom| &atom.name))
     };
-    let initial = mask(&mut first.initial.iter());
-    let mut words = vec![sizes[0] as u64, sizes[1] as u64, sizes[2] as u64, initial, 0];
+    let mut words = sizes.map(|size| size as u64).to_vec();
+    words.extend(mask(&mut first.initial.iter()));
+    words.resize(ROW, 0);
     for (number, member) in members.iter().enumerate() {
-        words.extend([number as u64, part(&member.goal, false), 0, 0, 0]);
+        words.push(number as u64);
+        words.extend(part(&member.goal, false));
+        words.resize(ROW * (2 + number), 0);
     }
     let mut count = 0;
     for (number, member) in members.iter().enumerate() {
         for action in &member.actions {
             let waited = waits.iter().filter(|wait| wait.0 == count).map(|wait| wait.1);
-            words.extend([
-                number as u64,
-                part(&action.precondition, false),
-                Facts::of_numbers(waited).word(),
-                part(&action.effect, false),
-                part(&action.effect, true),
-            ]);
+            words.push(number as u64);
+            words.extend(part(&action.precondition, false));
+            words.extend(Facts::of_numbers(waited).words());
+            words.extend(part(&action.effect, false));
+            words.extend(part(&action.effect, true));
             count += 1;
         }
     }

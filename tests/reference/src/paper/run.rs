@@ -196,7 +196,7 @@ impl Counted {
     }
 }
 
-/// A run of eleven words that is handed in, with its task and plans. Places of members that the
+/// A run of twelve words that is handed in, with its task and plans. Places of members that the
 /// task does not have stay aside.
 fn handed_in(
     words: &[u64],
@@ -206,7 +206,7 @@ fn handed_in(
 ) -> Result<(Task, Vec<Vec<u16>>, Counted), Refusal> {
     let task = check(words)?;
     let plans = plans(&task, plan_slice, ends)?;
-    let shared = Facts::of_word(run[SHARED]);
+    let shared = Facts::of_words(&run[SHARED..CHANGE]);
     if shared.exceeds(task.facts) {
         return Err(4);
     }
@@ -223,17 +223,17 @@ fn handed_in(
     Ok((task, plans, held))
 }
 
-/// Writes a run to its eleven words.
+/// Writes a run to its twelve words.
 fn hand_back(held: &Counted, run: &mut [u64]) {
     run[0] = if held.run.collided { 1 } else { 0 };
     for (member, &place) in held.run.places.iter().enumerate() {
         run[1 + member] = place as u64;
     }
-    run[SHARED] = held.run.shared.word();
+    run[SHARED..CHANGE].copy_from_slice(&held.run.shared.words());
     run[CHANGE] = held.change as u64;
 }
 
-/// The operation pick, on a run of eleven words.
+/// The operation pick, on a run of twelve words.
 pub fn pick(
     words: &[u64],
     plan_slice: &[u16],
@@ -247,7 +247,7 @@ pub fn pick(
     Ok(answer)
 }
 
-/// The operation ask, on a run of eleven words.
+/// The operation ask, on a run of twelve words.
 pub fn ask(
     words: &[u64],
     plan_slice: &[u16],
@@ -259,7 +259,7 @@ pub fn ask(
     held.ask(&task, &plans, member)
 }
 
-/// The operation commit, on a run of eleven words.
+/// The operation commit, on a run of twelve words.
 pub fn commit(
     words: &[u64],
     plan_slice: &[u16],
@@ -273,7 +273,7 @@ pub fn commit(
     Ok(answer)
 }
 
-/// The start of a run, as eleven words.
+/// The start of a run, as twelve words.
 pub fn start(words: &[u64], run: &mut [u64]) -> Result<(), Refusal> {
     let task = check(words)?;
     run.fill(0);
@@ -281,7 +281,7 @@ pub fn start(words: &[u64], run: &mut [u64]) -> Result<(), Refusal> {
     Ok(())
 }
 
-/// Picks in turn on a run of eleven words, and what each answers; one that is refused is passed
+/// Picks in turn on a run of twelve words, and what each answers; one that is refused is passed
 /// over.
 pub fn play_picks(
     words: &[u64],

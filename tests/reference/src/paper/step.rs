@@ -23,13 +23,13 @@ pub fn step(action: &Action, shared: &Facts) -> Step {
     }
 }
 
-/// The operation: an action by its number, at a shared copy given as a word.
-pub fn step_by_number(words: &[u64], action: u16, shared: u64) -> Result<Step, Refusal> {
+/// The operation: an action by its number, at a shared copy given as two words.
+pub fn step_by_number(words: &[u64], action: u16, shared: &[u64]) -> Result<Step, Refusal> {
     let task = check(words)?;
     if action as usize >= task.actions.len() {
         return Err(7);
     }
-    let shared = Facts::of_word(shared);
+    let shared = Facts::of_words(shared);
     if shared.exceeds(task.facts) {
         return Err(4);
     }

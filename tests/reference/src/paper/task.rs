@@ -1,10 +1,15 @@
 //! "The task" and the task check.
 
-use super::facts::Facts;
+use super::facts::{Facts, MASK};
 use super::Refusal;
 
-/// Words in a row of a task.
-pub const ROW: usize = 5;
+/// Words in a row of a task: a number, then four masks.
+pub const ROW: usize = 1 + 4 * MASK;
+
+/// The most facts, members and actions of a task.
+pub const FACTS: u64 = 128;
+pub const MEMBERS: u64 = 8;
+pub const ACTIONS: u64 = 256;
 
 /// An action of a checked task.
 #[derive(Clone, Debug)]
@@ -47,7 +52,9 @@ pub fn check(words: &[u64]) -> Result<Task, Refusal> {
         return Err(1);
     }
     let (facts, members, actions) = (words[0], words[1], words[2]);
-    if !(1..=64).contains(&facts) || !(1..=8).contains(&members) || actions > 256 || words[4] != 0 {
+    let sizes = (1..=FACTS).contains(&facts) && (1..=MEMBERS).contains(&members);
+    let zeros = words[3 + MASK..ROW].iter().all(|&word| word == 0);
+    if !sizes || actions > ACTIONS || !zeros {
         return Err(2);
     }
     let (members, actions) = (members as usize, actions as usize);
@@ -55,8 +62,8 @@ pub fn check(words: &[u64]) -> Result<Task, Refusal> {
         return Err(1);
     }
     let rows: Vec<&[u64]> = words.chunks(ROW).collect();
-    let mut task =
-        Task { facts, initial: Facts::of_word(rows[0][3]), goals: Vec::new(), actions: Vec::new() };
+    let initial = Facts::of_words(&rows[0][3..3 + MASK]);
+    let mut task = Task { facts, initial, goals: Vec::new(), actions: Vec::new() };
     if task.initial.exceeds(facts) {
         return Err(4);
     }
@@ -69,11 +76,17 @@ pub fn check(words: &[u64]) -> Result<Task, Refusal> {
     Ok(task)
 }
 
+/// A mask of a row after its number, by its place from 0.
+fn mask(row: &[u64], place: usize) -> Facts {
+    let begin = 1 + MASK * place;
+    Facts::of_words(&row[begin..begin + MASK])
+}
+
 fn goal_row(facts: u64, member: usize, row: &[u64]) -> Result<Facts, Refusal> {
-    if row[0] != member as u64 || row[2] != 0 || row[3] != 0 || row[4] != 0 {
+    if row[0] != member as u64 || row[1 + MASK..].iter().any(|&word| word != 0) {
         return Err(3);
     }
-    let goal = Facts::of_word(row[1]);
+    let goal = mask(row, 0);
     if goal.exceeds(facts) {
         return Err(4);
     }
@@ -86,10 +99,10 @@ fn action_row(facts: u64, members: usize, row: &[u64]) -> Result<Action, Refusal
     }
     let action = Action {
         member: row[0] as usize,
-        pre: Facts::of_word(row[1]),
-        wait: Facts::of_word(row[2]),
-        add: Facts::of_word(row[3]),
-        del: Facts::of_word(row[4]),
+        pre: mask(row, 0),
+        wait: mask(row, 1),
+        add: mask(row, 2),
+        del: mask(row, 3),
     };
     for mask in [&action.pre, &action.wait, &action.add, &action.del] {
         if mask.exceeds(facts) {

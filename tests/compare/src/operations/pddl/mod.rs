@@ -14,6 +14,7 @@ use reference::paper::interface as paper;
 use reference::paper::pddl::grouped;
 use reference::paper::pddl::words as told;
 use reference::paper::task::ROW;
+use reference::paper::text::RECORDS;
 use reference::random::Random;
 
 /// The length of a slice that the writer does not refuse.
@@ -45,7 +46,7 @@ fn word_slice(random: &mut Random, text: &[u8], waits: &[u8]) -> usize {
         1..=3 => needed.saturating_sub(1),
         4 => random.below(needed + 1),
         5..=8 => needed + random.between(1, 9),
-        9 => 1325,
+        9 => RECORDS * ROW,
         _ => needed,
     }
 }

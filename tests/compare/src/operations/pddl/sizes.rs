@@ -5,7 +5,8 @@ use super::{read_draft, read_on, write_on, Near, ENOUGH, PLAIN};
 use crate::case::Checked;
 use reference::generate::pddl::{self as generate, Condition, Draft, Member, Spelling};
 use reference::generate::sizes::{last_action, last_fact, last_unsolvable, sizes};
-use reference::interface::Pddl;
+use reference::generate::Law;
+use reference::interface::{Pddl, FACTS, ROW};
 use reference::random::Random;
 use std::sync::OnceLock;
 
@@ -67,11 +68,11 @@ pub const MADE: [(Made, usize); 28] = [
     (ReadUnknownAt, 257),
     (ReadWaits, 65_537),
     (ReadWaitAction, 257),
-    (ReadWaitFact, 65),
+    (ReadWaitFact, 129),
     (ReadWaitDigits, 21),
     (ReadBadWait, 4097),
     (ReadSlack, 4097),
-    (WriteFacts, 64),
+    (WriteFacts, FACTS),
     (WriteMembers, 8),
     (WriteActions, 256),
     (WriteSlack, 4097),
@@ -122,8 +123,6 @@ pub fn any(case: u64, random: &mut Random, checked: &impl Pddl) -> Option<Checke
     let (made, size) = list()[(case / EVERY % count()) as usize];
     Some(made.check(size, random, checked))
 }
-
-const FACTS: usize = 64;
 
 impl Made {
     fn check(self, size: usize, random: &mut Random, checked: &impl Pddl) -> Checked {
@@ -211,23 +210,23 @@ impl Made {
                     more.push(b'\n');
                 }
                 text.splice(at..at, more).for_each(drop);
-                read_on(random, checked, text, Vec::new(), 12)
+                read_on(random, checked, text, Vec::new(), 2 * ROW + 2)
             }
             ReadCommentLast => {
                 let mut text = plain(random, &small());
                 text.push(b';');
                 text.extend((1..size).map(|_| random.one_of(b"();\r\x00\xffaZ")));
-                read_on(random, checked, text, Vec::new(), 10)
+                read_on(random, checked, text, Vec::new(), 2 * ROW)
             }
             ReadBytes => {
                 let text = of_bytes(random, size);
-                read_on(random, checked, text, b"0,0\r\n".to_vec(), 15)
+                read_on(random, checked, text, b"0,0\r\n".to_vec(), 3 * ROW)
             }
             ReadBadByte => {
                 let mut text = vec![b' '; size];
                 text[size - 1] = random.one_of(b"x)(.\x00\xff0");
                 text.extend(plain(random, &small()));
-                read_on(random, checked, text, Vec::new(), 10)
+                read_on(random, checked, text, Vec::new(), 2 * ROW)
             }
             ReadUnknownAt => {
                 // The last atom of the last action is unknown.
@@ -276,11 +275,11 @@ impl Made {
                     random.one_of(&[&b"0"[..], b"0,", b"0,0,0", b"0,00", b"\r\n", b"0,0\n"]);
                 waits.extend(wrong);
                 let text = plain(random, &with_action());
-                read_on(random, checked, text, waits, 15)
+                read_on(random, checked, text, waits, 3 * ROW)
             }
             ReadSlack => {
                 let text = plain(random, &with_action());
-                read_on(random, checked, text, Vec::new(), 15 + size)
+                read_on(random, checked, text, Vec::new(), 3 * ROW + size)
             }
             WriteFacts => {
                 let words = last_fact(random, size).words();
@@ -393,13 +392,12 @@ fn of_bytes(random: &mut Random, bytes: usize) -> Vec<u8> {
 
 /// A task whose texts are as long as so many actions can make them.
 fn longest(actions: usize) -> Vec<u64> {
-    let full = u64::MAX;
-    let mut words = vec![64, 8, actions as u64, full, 0];
-    for member in 0..8 {
-        words.extend([member, full, 0, 0, 0]);
-    }
-    for action in 0..actions as u64 {
-        words.extend([action % 8, full, full, full, full]);
-    }
-    words
+    let full = u128::MAX;
+    let law = Law {
+        facts: FACTS,
+        initial: full,
+        goals: vec![full; 8],
+        actions: (0..actions as u128).map(|action| [action % 8, full, full, full, full]).collect(),
+    };
+    law.words()
 }
