@@ -18,11 +18,13 @@
  * 64 of word f / 64, so where F is at most 64 the high word is 0. Wherever a mask or a copy stands,
  * in a task, a table, a run or `out`, it takes two words so. A shared copy is the mask of the facts
  * that hold for all; a local copy is what a member's own steps alone have made of the initial mask
- * I. An action answers wait, collision or go at a shared copy. A plan of a member is a list of its
- * actions; it solves if, from I, each precondition holds in the local copy as it comes and the goal
- * holds at the end. A run has one solving plan for each member, and a pick does a member's next
- * step. A run's change number counts the picks done on it, those that go and the one that collides;
- * a ticket is a member and a change number.
+ * I. An action answers wait, collision or go at a shared copy. What a collision is missing is the
+ * mask of the action's preconditions that the shared copy lacks. It is never empty, and no fact of
+ * wait is in it; every answer that is no collision has 0 in both of its words. A plan of a member
+ * is a list of its actions; it solves if, from I, each precondition holds in the local copy as it
+ * comes and the goal holds at the end. A run has one solving plan for each member, and a pick does
+ * a member's next step. A run's change number counts the picks done on it, those that go and the
+ * one that collides; a ticket is a member and a change number.
  *
  * A task is rows of nine words:
  *   row 0           F (1 to 128), members n (1 to 8), actions m (0 to 256), I, four zeros
@@ -76,14 +78,14 @@ enum { LAWCHECK_FACTS = 128, LAWCHECK_MASK_WORDS = 2, LAWCHECK_ROW_WORDS = 9 };
 /* Words of `out`, of a run, and of the reader's word slice; bytes that the writer's texts never
  * exceed. */
 enum {
-    LAWCHECK_STEP_OUT = 3,
+    LAWCHECK_STEP_OUT = 5,
     LAWCHECK_SOLO_REPLAY_OUT = 2,
     LAWCHECK_SOLO_SEARCH_OUT = 3,
-    LAWCHECK_JOINT_REPLAY_OUT = 5,
-    LAWCHECK_PICK_OUT = 1,
-    LAWCHECK_ASK_OUT = 5,
-    LAWCHECK_COMMIT_OUT = 1,
-    LAWCHECK_VERDICT_OUT = 3,
+    LAWCHECK_JOINT_REPLAY_OUT = 7,
+    LAWCHECK_PICK_OUT = 3,
+    LAWCHECK_ASK_OUT = 7,
+    LAWCHECK_COMMIT_OUT = 3,
+    LAWCHECK_VERDICT_OUT = 5,
     LAWCHECK_READ_OUT = 1,
     LAWCHECK_PDDL_READ_OUT = 1,
     LAWCHECK_PDDL_WRITE_OUT = 2,
@@ -145,8 +147,9 @@ uint64_t lawcheck_task(const uint64_t *task, size_t task_len);
 
 /* What an action answers at a shared copy, a slice of two words.
  *
- * out: 0 go, 1 wait, 2 collision; the new shared copy after go, in two words.
- * Refuses with 14 where shared_len is not 2 or out_len is below 3; the task check; 7 no such
+ * out: 0 go, 1 wait, 2 collision; the new shared copy after go, in two words; what is missing after
+ * a collision, in two words.
+ * Refuses with 14 where shared_len is not 2 or out_len is below 5; the task check; 7 no such
  * action; 4 a bit of the shared copy at or above F.
  */
 uint64_t lawcheck_step(const uint64_t *task, size_t task_len, uint16_t action,
@@ -179,8 +182,8 @@ uint64_t lawcheck_solo_search(const uint64_t *task, size_t task_len, uint8_t mem
  *
  * out: 0 success, 1 collision, 2 deadlock, 3 missed, 4 open; after missed the lowest member whose
  * goal does not hold; the number of picks done, a colliding one not counted; the shared copy, in
- * two words.
- * Refuses with 14 where out_len is below 5; the task check; 11 ends not n in number, falling, or
+ * two words; what the colliding pick is missing, in two words.
+ * Refuses with 14 where out_len is below 7; the task check; 11 ends not n in number, falling, or
  * the last not plans_len; then by member 7 or 10 at its first bad entry, 12 a plan that does not
  * solve; then at the first bad pick 8 no such member, or 13 (no step left, waiting, or already
  * collided).
@@ -207,9 +210,9 @@ uint64_t lawcheck_joint_replay(const uint64_t *task, size_t task_len,
  * that; so do asks and commits. Picks that are known beforehand are done by one lawcheck_play, or
  * from the start by lawcheck_joint_replay: both look at the plans once.
  *
- * out: 0 go, 1 collision.
+ * out: 0 go, 1 collision; what is missing after a collision, in two words.
  * Refuses with 14 where run_len is below 12, the change number above LAWCHECK_LAST_CHANGE, or
- * out_len below 1; as lawcheck_joint_replay up to 12; 4 a bit of the shared copy at or above F; 11
+ * out_len below 3; as lawcheck_joint_replay up to 12; 4 a bit of the shared copy at or above F; 11
  * a place past its plan's end; 8 no such member; 13 (no step left, waiting, or already collided);
  * 20 where the change number is LAWCHECK_LAST_CHANGE.
  */
@@ -227,10 +230,10 @@ uint64_t lawcheck_pick(const uint64_t *task, size_t task_len,
  * waits gets a ticket too, and so does a run that has the last change number; a commit with either
  * is refused.
  *
- * out: 0 go, 1 wait, 2 collision; the new shared copy after go, in two words; the ticket's member;
- * the ticket's change number.
+ * out: 0 go, 1 wait, 2 collision; the new shared copy after go, in two words; what is missing after
+ * a collision, in two words; the ticket's member; the ticket's change number.
  * Refuses with 14 where run_len is below 12, the change number above LAWCHECK_LAST_CHANGE, or
- * out_len below 5; as lawcheck_joint_replay up to 12; 4 a bit of the shared copy at or above F; 11
+ * out_len below 7; as lawcheck_joint_replay up to 12; 4 a bit of the shared copy at or above F; 11
  * a place past its plan's end; 8 no such member; 13 (no step left, or already collided).
  */
 uint64_t lawcheck_ask(const uint64_t *task, size_t task_len,
@@ -242,11 +245,11 @@ uint64_t lawcheck_ask(const uint64_t *task, size_t task_len,
 /* The pick that a ticket is for, on a run that the caller holds. member and change are the ticket;
  * one that nobody asked for is as good as any other where its change number is the run's.
  *
- * Where it is not refused, the answer is what lawcheck_ask gives for the member on this run, and
- * the run is left as lawcheck_pick leaves it. Asks and refused commits leave no trace: without them
- * the other calls on the run answer the same and leave it the same.
+ * Where it is not refused, the answer is what lawcheck_ask gives for the member on this run, what
+ * is missing too, and the run is left as lawcheck_pick leaves it. Asks and refused commits leave no
+ * trace: without them the other calls on the run answer the same and leave it the same.
  *
- * out: 0 go, 1 collision.
+ * out: 0 go, 1 collision; what is missing after a collision, in two words.
  * Refuses as lawcheck_pick; between its 8 and its 13 also with 19, where change is not the run's
  * change number.
  */
@@ -271,7 +274,8 @@ uint64_t lawcheck_start(const uint64_t *task, size_t task_len, uint64_t *run, si
  * it there, 8 no such member, 13 (no step left, waiting, or already collided) or 20 (the change
  * number is LAWCHECK_LAST_CHANGE); the rest of it stays as it was. Of the run afterwards the first
  * word is 1 where it has collided, whatever was there before, else 0, and the change number is
- * higher by the picks that go or collide.
+ * higher by the picks that go or collide. What a colliding pick is missing is not told here;
+ * lawcheck_step tells it at the run's shared copy, which a collision leaves as it was.
  * Refuses with 14 where run_len is below 12, the change number above LAWCHECK_LAST_CHANGE, or
  * answers_len below picks_len; as lawcheck_pick up to 11, a place past its plan's end.
  */
@@ -293,7 +297,8 @@ uint64_t lawcheck_play(const uint64_t *task, size_t task_len,
  * fault plans, ends and picks hold the first conflict, then zeros: the plans, the end of each, and
  * the picks with a colliding one last. Its replay by lawcheck_joint_replay, lent the plans up to
  * the last end, n ends, and the picks up to the number with a colliding one after them, ends in
- * that kind, member and number. Where there is no fault all three are zero.
+ * that kind, member and number and tells the same as missing. Where there is no fault all three are
+ * zero.
  *
  * The first conflict is that of the first configuration in breadth order that shows a fault. It
  * comes there by the moves that first listed the rows: each row from the first one from which a
@@ -312,8 +317,8 @@ uint64_t lawcheck_play(const uint64_t *task, size_t task_len,
  *
  * out: 0 robust, 1 unsolvable, 2 collision, 3 deadlock, 4 missed; the member (unsolvable: the
  * lowest whose I is dead; missed); the number (robust: configurations; a fault: picks done before
- * it).
- * Refuses with 14 where out_len is below 3; the task check; 14 where marks_len < n * K, trail_len <
+ * it); what the conflict's colliding pick is missing, in two words.
+ * Refuses with 14 where out_len is below 5; the task check; 14 where marks_len < n * K, trail_len <
  * 2 * C, plans_len < C + n * K, ends_len < n or picks_len < C; 9 exactly where a member's copies
  * exceed K or, all members being live, the configurations exceed C.
  */

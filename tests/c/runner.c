@@ -1,6 +1,6 @@
 /* A settlement runner in small: it checks a law, holds one run, asks members what they would do,
- * reserves a machine for each step that would go, commits the step, and reports how the run ended.
- * The last line is 'N passed, M failed'. */
+ * reserves a machine for each step that would go, commits the step, names the facts that a step
+ * lacked, and reports how the run ended. The last line is 'N passed, M failed'. */
 
 #include <lawcheck.h>
 #include <stdbool.h>
@@ -25,6 +25,9 @@ static const char LAW_TEXT[] =
     "5,2,4,1,0,0,0,0,0\r\n0,5,0,0,0,0,0,0,0\r\n1,17,0,0,0,0,0,0,0\r\n0,1,0,1,0,2,0,1,0\r\n"
     "0,2,0,0,0,5,0,2,0\r\n1,1,0,1,0,8,0,1,0\r\n1,8,0,0,0,17,0,8,0\r\n";
 
+/* Names of that law's facts; others are named by their number. */
+static const char *const NAMES[] = {"token", "work 0", "goal 0", "work 1", "goal 1"};
+
 static unsigned passed, failed;
 
 /* Whether two words hold this mask. */
@@ -43,6 +46,29 @@ static void expect(bool holds, const char *what)
     }
 }
 
+/* The names of a mask's facts, rising, with commas between them. */
+static const char *named(const uint64_t *mask)
+{
+    static char text[LAWCHECK_FACTS * sizeof "fact 127, "];
+    size_t length = 0;
+    text[0] = '\0';
+    for (unsigned fact = 0; fact < LAWCHECK_FACTS; fact++) {
+        if (mask[fact / 64] >> fact % 64 & 1) {
+            const char *comma = length == 0 ? "" : ", ";
+            size_t room = sizeof text - length;
+            length += (size_t)(fact < sizeof NAMES / sizeof *NAMES
+                                   ? snprintf(text + length, room, "%s%s", comma, NAMES[fact])
+                                   : snprintf(text + length, room, "%sfact %u", comma, fact));
+        }
+    }
+    return text;
+}
+
+static bool is_named(const uint64_t *mask, const char *names)
+{
+    return strcmp(named(mask), names) == 0;
+}
+
 /* What the runner holds: the law, the plans, the run as it stands, the picks so far, and how often
  * it asked for a machine. */
 struct runner {
@@ -59,7 +85,7 @@ struct runner {
 
 /* What a member would do, and the ticket for it. */
 struct asked {
-    uint64_t answer, shared[LAWCHECK_MASK_WORDS];
+    uint64_t answer, shared[LAWCHECK_MASK_WORDS], missing[LAWCHECK_MASK_WORDS];
     uint8_t member;
     uint32_t change;
 };
@@ -87,15 +113,22 @@ static void note(struct runner *runner, uint8_t member)
     }
 }
 
+/* What is missing has to be told in a collision and in no other answer. */
+static void expect_missing(bool collides, const uint64_t *missing)
+{
+    expect(is_mask(missing, 0, 0) != collides, "a collision lacks something, another answer none");
+}
+
 /* One pick on the held run: the refusal's number, or 0 with the answer in *answer. */
 static uint64_t pick(struct runner *runner, uint8_t member, uint64_t *answer)
 {
-    uint64_t out[LAWCHECK_PICK_OUT] = {99};
+    uint64_t out[LAWCHECK_PICK_OUT] = {99, 99, 99};
     uint64_t refusal =
         lawcheck_pick(runner->law, runner->law_len, runner->plans, runner->plans_len, runner->ends,
                       MEMBERS, runner->run, LAWCHECK_RUN_WORDS, member, out, LAWCHECK_PICK_OUT);
     if (refusal == 0) {
         *answer = out[0];
+        expect_missing(out[0] == LAWCHECK_PICK_COLLISION, out + 1);
         note(runner, member);
     }
     return refusal;
@@ -104,31 +137,34 @@ static uint64_t pick(struct runner *runner, uint8_t member, uint64_t *answer)
 /* Asks what a member would do: the refusal's number, or 0 with the answer and its ticket. */
 static uint64_t ask(const struct runner *runner, uint8_t member, struct asked *asked)
 {
-    uint64_t before[LAWCHECK_RUN_WORDS], out[LAWCHECK_ASK_OUT] = {99, 99, 99, 99, 99};
+    uint64_t before[LAWCHECK_RUN_WORDS], out[LAWCHECK_ASK_OUT] = {99, 99, 99, 99, 99, 99, 99};
     memcpy(before, runner->run, sizeof before);
     uint64_t refusal =
         lawcheck_ask(runner->law, runner->law_len, runner->plans, runner->plans_len, runner->ends,
                      MEMBERS, runner->run, LAWCHECK_RUN_WORDS, member, out, LAWCHECK_ASK_OUT);
     expect(memcmp(before, runner->run, sizeof before) == 0, "an ask leaves the run as it was");
     if (refusal == 0) {
-        expect(out[3] == member && out[4] == runner->run[LAWCHECK_RUN_CHANGE],
+        expect(out[5] == member && out[6] == runner->run[LAWCHECK_RUN_CHANGE],
                "a ticket is the member and the change number");
-        *asked = (struct asked){out[0], {out[1], out[2]}, (uint8_t)out[3], (uint32_t)out[4]};
+        expect_missing(out[0] == LAWCHECK_ASK_COLLISION, out + 3);
+        *asked = (struct asked){
+            out[0], {out[1], out[2]}, {out[3], out[4]}, (uint8_t)out[5], (uint32_t)out[6]};
     }
     return refusal;
 }
 
-/* Commits what was asked: the refusal's number, or 0. */
+/* Commits what was asked: the refusal's number, or 0. A member that collides is told why. */
 static uint64_t commit(struct runner *runner, const struct asked *asked)
 {
-    uint64_t before[LAWCHECK_RUN_WORDS], out[LAWCHECK_COMMIT_OUT] = {99};
+    uint64_t before[LAWCHECK_RUN_WORDS], out[LAWCHECK_COMMIT_OUT] = {99, 99, 99};
     memcpy(before, runner->run, sizeof before);
     uint64_t refusal = lawcheck_commit(runner->law, runner->law_len, runner->plans,
                                        runner->plans_len, runner->ends, MEMBERS, runner->run,
                                        LAWCHECK_RUN_WORDS, asked->member, asked->change, out,
                                        LAWCHECK_COMMIT_OUT);
     if (refusal != 0) {
-        expect(memcmp(before, runner->run, sizeof before) == 0 && out[0] == 99,
+        expect(memcmp(before, runner->run, sizeof before) == 0 && out[0] == 99 &&
+                   is_mask(out + 1, 99, 99),
                "a refused commit changes nothing");
         return refusal;
     }
@@ -139,7 +175,9 @@ static uint64_t commit(struct runner *runner, const struct asked *asked)
     } else {
         expect(out[0] == LAWCHECK_PICK_COLLISION && asked->answer == LAWCHECK_ASK_COLLISION,
                "it collides as was told");
+        printf("member %u lacked: %s\n", asked->member, named(out + 1));
     }
+    expect(is_mask(out + 1, asked->missing[0], asked->missing[1]), "it lacks what was told");
     expect(runner->run[LAWCHECK_RUN_CHANGE] == before[LAWCHECK_RUN_CHANGE] + 1,
            "a commit is one change");
     note(runner, asked->member);
@@ -254,22 +292,24 @@ static void single_operations(void)
         0, 0, 0, 0, 0, 2, 0, 1, 0,
         1, 1, 0, 0, 0, 1, 0, 0, 0,
     };
-    uint64_t table[9], out[3] = {99, 99, 99}, found[LAWCHECK_SOLO_SEARCH_OUT] = {99, 99, 99};
+    uint64_t table[9], found[LAWCHECK_SOLO_SEARCH_OUT] = {99, 99, 99};
+    uint64_t out[LAWCHECK_STEP_OUT] = {99, 99, 99, 99, 99};
     uint8_t live[4];
     expect(lawcheck_task(LAW, WORDS) == 0, "the law is accepted");
     expect(lawcheck_task(LAW, WORDS - 1) == LAWCHECK_LENGTH, "a cut law is refused");
-    expect(lawcheck_step(LAW, WORDS, 0, shared, 2, out, 3) == 0 && out[0] == LAWCHECK_STEP_GO &&
-               is_mask(out + 1, 2, 0),
+    expect(lawcheck_step(LAW, WORDS, 0, shared, 2, out, 5) == 0 && out[0] == LAWCHECK_STEP_GO &&
+               is_mask(out + 1, 2, 0) && is_mask(out + 3, 0, 0),
            "the token is taken");
-    expect(lawcheck_step(LAW, WORDS, 1, shared, 2, out, 3) == 0 &&
-               out[0] == LAWCHECK_STEP_COLLISION && is_mask(out + 1, 0, 0),
-           "work without the token collides");
+    expect(lawcheck_step(LAW, WORDS, 1, shared, 2, out, 5) == 0 &&
+               out[0] == LAWCHECK_STEP_COLLISION && is_mask(out + 1, 0, 0) &&
+               is_mask(out + 3, 2, 0) && is_named(out + 3, "work 0"),
+           "posting without having begun collides, and what it lacks is named");
     out[0] = 99;
-    expect(lawcheck_step(LAW, WORDS, 0, shared, 1, out, 3) == LAWCHECK_SHORT &&
-               lawcheck_step(LAW, WORDS, 0, shared, 0, out, 3) == LAWCHECK_SHORT,
+    expect(lawcheck_step(LAW, WORDS, 0, shared, 1, out, 5) == LAWCHECK_SHORT &&
+               lawcheck_step(LAW, WORDS, 0, shared, 0, out, 5) == LAWCHECK_SHORT,
            "a shared copy is two words");
-    expect(lawcheck_step(LAW, WORDS, 0, shared, 2, out, 2) == LAWCHECK_SHORT && out[0] == 99,
-           "a step tells three numbers");
+    expect(lawcheck_step(LAW, WORDS, 0, shared, 2, out, 4) == LAWCHECK_SHORT && out[0] == 99,
+           "a step tells five numbers");
     expect(lawcheck_solo_replay(LAW, WORDS, 0, plan, 2, out, 2) == 0 && out[0] == LAWCHECK_SOLVES,
            "member 0's plan solves");
     expect(lawcheck_solo_replay(LAW, WORDS, 0, plan, 1, out, 2) == 0 &&
@@ -325,7 +365,7 @@ static void run_to_success(void)
     expect(pick(&runner, 0, &answer) == LAWCHECK_PICK, "nor picked");
     expect(pick(&runner, MEMBERS, &answer) == LAWCHECK_MEMBER, "there is no third member");
     expect(ask(&runner, MEMBERS, &first) == LAWCHECK_MEMBER, "it cannot be asked");
-    first = (struct asked){LAWCHECK_ASK_GO, {0, 0}, MEMBERS, 7};
+    first = (struct asked){LAWCHECK_ASK_GO, {0, 0}, {0, 0}, MEMBERS, 7};
     expect(commit(&runner, &first) == LAWCHECK_MEMBER, "nor committed, by a stale ticket either");
     expect(finish(&runner), "the run finishes");
     expect(runner.run[LAWCHECK_RUN_CHANGE] == 4, "four picks were done");
@@ -334,8 +374,15 @@ static void run_to_success(void)
                is_mask(runner.run + LAWCHECK_RUN_SHARED, out[3], out[4]),
            "the replay is a success with the run's shared copy");
     expect(lawcheck_pick(LAW, WORDS, plans, 4, ends, MEMBERS, runner.run, LAWCHECK_RUN_WORDS - 1, 0,
-                         out, 1) == LAWCHECK_SHORT,
+                         out, LAWCHECK_PICK_OUT) == LAWCHECK_SHORT,
            "a run has twelve words");
+    out[0] = 99;
+    expect(lawcheck_pick(LAW, WORDS, plans, 4, ends, MEMBERS, runner.run, LAWCHECK_RUN_WORDS, 0,
+                         out, LAWCHECK_PICK_OUT - 1) == LAWCHECK_SHORT &&
+               lawcheck_commit(LAW, WORDS, plans, 4, ends, MEMBERS, runner.run, LAWCHECK_RUN_WORDS,
+                               0, 0, out, LAWCHECK_COMMIT_OUT - 1) == LAWCHECK_SHORT &&
+               out[0] == 99,
+           "a pick tells three numbers, and so does a commit");
 }
 
 /* Members whose steps have nothing to do with each other: what one is told becomes stale by the
@@ -377,18 +424,24 @@ static void run_to_collision(void)
     for (int action = 0; action < ACTIONS; action++) {
         law[ROW * (1 + MEMBERS + action) + 3] = 0;
     }
-    expect(verdict(law, WORDS, out) == 0 && out[0] == LAWCHECK_COLLISION, "the law may collide");
+    expect(verdict(law, WORDS, out) == 0 && out[0] == LAWCHECK_COLLISION &&
+               is_mask(out + 3, 1, 0) && is_named(out + 3, "token"),
+           "the law may collide for want of the token");
     uint64_t done = out[2];
     expect(lawcheck_joint_replay(law, WORDS, conflict_plans, conflict_ends[MEMBERS - 1],
                                  conflict_ends, MEMBERS, conflict_picks, done + 1, out,
                                  LAWCHECK_JOINT_REPLAY_OUT) == 0 &&
-               out[0] == LAWCHECK_RUN_COLLISION && out[2] == done,
-           "its conflict replays");
+               out[0] == LAWCHECK_RUN_COLLISION && out[2] == done && is_mask(out + 5, 1, 0),
+           "its conflict replays, and lacks the same");
+    expect(lawcheck_joint_replay(law, WORDS, conflict_plans, conflict_ends[MEMBERS - 1],
+                                 conflict_ends, MEMBERS, conflict_picks, done + 1, out,
+                                 LAWCHECK_JOINT_REPLAY_OUT - 1) == LAWCHECK_SHORT,
+           "a replay tells seven numbers");
     start(&runner, law, WORDS, plans, 4, ends);
     expect(pick(&runner, 0, &answer) == 0 && answer == LAWCHECK_PICK_GO, "member 0 goes");
     expect(ask(&runner, 1, &asked) == 0 && asked.answer == LAWCHECK_ASK_COLLISION &&
-               is_mask(asked.shared, 0, 0),
-           "member 1 would collide");
+               is_mask(asked.shared, 0, 0) && is_named(asked.missing, "token"),
+           "member 1 would collide for want of the token");
     expect(commit(&runner, &asked) == 0, "member 1 collides");
     expect(runner.run[LAWCHECK_RUN_COLLIDED] == 1 && runner.run[LAWCHECK_RUN_PLACES + 1] == 0 &&
                is_mask(runner.run + LAWCHECK_RUN_SHARED, 2, 0),
@@ -396,8 +449,9 @@ static void run_to_collision(void)
     expect(runner.run[LAWCHECK_RUN_CHANGE] == 2, "but it counts");
     expect(pick(&runner, 0, &answer) == LAWCHECK_PICK, "the run is closed");
     expect(ask(&runner, 0, &asked) == LAWCHECK_PICK, "nobody is told anything");
-    expect(replay(&runner, out) == 0 && out[0] == LAWCHECK_RUN_COLLISION && out[2] == 1,
-           "the replay collides after one pick");
+    expect(replay(&runner, out) == 0 && out[0] == LAWCHECK_RUN_COLLISION && out[2] == 1 &&
+               is_mask(out + 5, 1, 0),
+           "the replay collides after one pick for want of the token");
 }
 
 /* A member that keeps the token leaves the other one waiting. */
@@ -411,14 +465,16 @@ static void run_to_deadlock(void)
     memcpy(law, LAW, sizeof law);
     law[ROW + 1] = 4;
     law[2 * ROW + 1] = 16;
-    expect(verdict(law, WORDS, out) == 0 && out[0] == LAWCHECK_DEADLOCK, "the law may deadlock");
+    expect(verdict(law, WORDS, out) == 0 && out[0] == LAWCHECK_DEADLOCK && is_mask(out + 3, 0, 0),
+           "the law may deadlock, and nothing is told to be missing");
     start(&runner, law, WORDS, plans, 5, ends);
     for (int count = 0; count < 3; count++) {
         expect(ask(&runner, 0, &asked) == 0 && commit(&runner, &asked) == 0, "member 0 goes on");
     }
     expect(finish(&runner) && runner.picks_len == 3, "nobody can be picked");
     expect(ask(&runner, 1, &asked) == 0 && asked.answer == LAWCHECK_ASK_WAIT, "member 1 waits");
-    expect(replay(&runner, out) == 0 && out[0] == LAWCHECK_RUN_DEADLOCK && out[2] == 3,
+    expect(replay(&runner, out) == 0 && out[0] == LAWCHECK_RUN_DEADLOCK && out[2] == 3 &&
+               is_mask(out + 5, 0, 0),
            "the replay is a deadlock after three picks");
 }
 
@@ -428,7 +484,7 @@ static void run_to_the_last_change(void)
     static const uint16_t plans[] = {0, 1, 2, 3};
     static const uint64_t ends[MEMBERS] = {2, 4};
     static const uint8_t picks[] = {0, 1, MEMBERS, 0};
-    uint64_t answers[4], out[LAWCHECK_ASK_OUT] = {99, 99, 99, 99, 99}, answer;
+    uint64_t answers[4], out[LAWCHECK_ASK_OUT] = {99}, answer;
     struct runner runner;
     struct asked asked;
     start(&runner, LAW, WORDS, plans, 4, ends);
@@ -450,7 +506,7 @@ static void run_to_the_last_change(void)
     expect(lawcheck_ask(LAW, WORDS, plans, 4, ends, MEMBERS, runner.run, LAWCHECK_RUN_WORDS, 0, out,
                         LAWCHECK_ASK_OUT - 1) == LAWCHECK_SHORT &&
                out[0] == 99,
-           "an ask tells five numbers");
+           "an ask tells seven numbers");
     runner.run[LAWCHECK_RUN_CHANGE]++;
     expect(ask(&runner, 0, &asked) == LAWCHECK_SHORT && pick(&runner, 0, &answer) == LAWCHECK_SHORT,
            "no run has a larger number");
@@ -502,6 +558,42 @@ static void run_in_the_high_word(void)
            "until fact 64 is there again");
 }
 
+/* A law of 128 facts in which a member takes four away, in both words; the other one needs these
+ * and fact 126, which it waits for. */
+static void run_for_want_of_many(void)
+{
+    static const uint64_t edge = UINT64_C(1) << 63, waited = UINT64_C(1) << 62;
+    const uint64_t low = edge | 1, high = edge | 1;
+    const uint64_t law[] = {
+        128, 2, 2, low, high | waited, 0, 0, 0, 0,
+        0, 0, 0, 0, 0, 0, 0, 0, 0,
+        1, 0, 0, 0, 0, 0, 0, 0, 0,
+        0, 0, 0, 0, 0, 0, 0, low, high,
+        1, low, high | waited, 0, waited, 0, 0, 0, 0,
+    };
+    static const uint16_t plans[] = {0, 1};
+    static const uint64_t ends[MEMBERS] = {1, 2};
+    static const char missing[] = "token, fact 63, fact 64, fact 127";
+    uint64_t out[LAWCHECK_JOINT_REPLAY_OUT], answer;
+    struct runner runner;
+    struct asked asked;
+    expect(verdict(law, 5 * ROW, out) == 0 && out[0] == LAWCHECK_COLLISION && out[2] == 1 &&
+               is_mask(out + 3, low, high) && is_named(out + 3, missing),
+           "the law may collide for want of four facts");
+    start(&runner, law, 5 * ROW, plans, 2, ends);
+    expect(pick(&runner, 0, &answer) == 0 && answer == LAWCHECK_PICK_GO, "member 0 takes them");
+    expect(ask(&runner, 1, &asked) == 0 && asked.answer == LAWCHECK_ASK_COLLISION &&
+               is_named(asked.missing, missing),
+           "member 1 would lack them");
+    runner.run[LAWCHECK_RUN_SHARED + 1] |= 1;
+    expect(ask(&runner, 1, &asked) == 0 && is_named(asked.missing, "token, fact 63, fact 127"),
+           "with fact 64 there again it would lack three");
+    expect(commit(&runner, &asked) == 0, "it collides for want of these");
+    expect(replay(&runner, out) == 0 && out[0] == LAWCHECK_RUN_COLLISION && out[2] == 1 &&
+               is_mask(out + 3, 0, waited) && is_named(out + 5, missing),
+           "in the replay it lacks all four");
+}
+
 int main(void)
 {
     read_the_law();
@@ -512,6 +604,7 @@ int main(void)
     run_to_deadlock();
     run_to_the_last_change();
     run_in_the_high_word();
+    run_for_want_of_many();
     printf("%u passed, %u failed\n", passed, failed);
     return failed == 0 ? 0 : 1;
 }

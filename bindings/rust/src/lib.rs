@@ -1,9 +1,10 @@
 //! A safe wrapper of the law checker's C interface, which `include/lawcheck.h` documents.
 //!
 //! Each function here has one of the header's functions under it: an answer is an enum or a struct,
-//! a refusal is a [`Refusal`], a shared copy is a [`Mask`]. Tasks and tables hold the header's
-//! words; [`mask`] and [`mask_words`] change between a mask and its two words. [`raw`] has the same
-//! functions with the header's numbers and slices, and its constants.
+//! a refusal is a [`Refusal`], a shared copy is a [`Mask`]. A collision tells its missing
+//! preconditions as a mask, never an empty one; [`facts`] goes through a mask's facts. Tasks and
+//! tables hold the header's words; [`mask`] and [`mask_words`] change between a mask and its two
+//! words. [`raw`] has the same functions with the header's numbers and slices, and its constants.
 #![deny(unsafe_code)]
 
 #[allow(unsafe_code)]
@@ -94,7 +95,7 @@ fn unknown(number: u64) -> ! {
     unreachable!("the library gives the header's answers, not {number}")
 }
 
-/// A set of facts: bit f stands for fact f. A shared copy is one.
+/// A set of facts: bit f stands for fact f. A shared copy is one, and what a collision is missing.
 pub type Mask = u128;
 
 /// The mask of two words, low word first.
@@ -108,6 +109,11 @@ pub fn mask_words(mask: Mask) -> [u64; raw::MASK_WORDS] {
     [mask as u64, (mask >> u64::BITS) as u64]
 }
 
+/// The facts of a mask, rising.
+pub fn facts(mask: Mask) -> impl Iterator<Item = u32> {
+    (0..Mask::BITS).filter(move |fact| mask >> fact & 1 == 1)
+}
+
 /// The task check.
 pub fn check(task: &[u64]) -> Result<(), Refusal> {
     answered(raw::task(task))
@@ -119,20 +125,30 @@ pub enum Step {
     /// It goes; the new shared copy.
     Go(Mask),
     Wait,
-    Collision,
+    /// The preconditions that the shared copy lacks.
+    Collision {
+        missing: Mask,
+    },
+}
+
+impl Step {
+    /// Of the kind of an answer, the new shared copy and what is missing.
+    fn of(kind: u64, new: [u64; raw::MASK_WORDS], missing: [u64; raw::MASK_WORDS]) -> Step {
+        match kind {
+            raw::STEP_GO => Step::Go(mask(new)),
+            raw::STEP_WAIT => Step::Wait,
+            raw::STEP_COLLISION => Step::Collision { missing: mask(missing) },
+            number => unknown(number),
+        }
+    }
 }
 
 /// An action at a shared copy.
 pub fn step(task: &[u64], action: u16, shared: Mask) -> Result<Step, Refusal> {
     let mut out = [0; raw::STEP_OUT];
     answered(raw::step(task, action, &mask_words(shared), &mut out))?;
-    let [kind, new @ ..] = out;
-    Ok(match kind {
-        raw::STEP_GO => Step::Go(mask(new)),
-        raw::STEP_WAIT => Step::Wait,
-        raw::STEP_COLLISION => Step::Collision,
-        number => unknown(number),
-    })
+    let [kind, new_low, new_high, missing @ ..] = out;
+    Ok(Step::of(kind, [new_low, new_high], missing))
 }
 
 /// How a member's plan ends on its local copy alone.
@@ -185,7 +201,10 @@ pub fn solo_search(
 #[derive(Clone, Copy, Debug, PartialEq, Eq)]
 pub enum Outcome {
     Success,
-    Collision,
+    /// The preconditions that the colliding pick lacked.
+    Collision {
+        missing: Mask,
+    },
     Deadlock,
     /// The lowest member whose goal does not hold.
     Missed(u8),
@@ -211,16 +230,16 @@ pub fn joint_replay(
 ) -> Result<Replay, Refusal> {
     let mut out = [0; raw::JOINT_REPLAY_OUT];
     answered(raw::joint_replay(task, plans, ends, picks, &mut out))?;
-    let [kind, member, picks, shared @ ..] = out;
+    let [kind, member, picks, shared_low, shared_high, missing @ ..] = out;
     let outcome = match kind {
         raw::RUN_SUCCESS => Outcome::Success,
-        raw::RUN_COLLISION => Outcome::Collision,
+        raw::RUN_COLLISION => Outcome::Collision { missing: mask(missing) },
         raw::RUN_DEADLOCK => Outcome::Deadlock,
         raw::RUN_MISSED => Outcome::Missed(member as u8),
         raw::RUN_OPEN => Outcome::Open,
         number => unknown(number),
     };
-    Ok(Replay { outcome, picks, shared: mask(shared) })
+    Ok(Replay { outcome, picks, shared: mask([shared_low, shared_high]) })
 }
 
 /// A run that the caller holds: whether it has collided, each member's place in its plan, the
@@ -284,7 +303,7 @@ impl Run {
     ) -> Result<Picked, Refusal> {
         let mut out = [0; raw::PICK_OUT];
         answered(raw::pick(task, plans, ends, &mut self.words, member, &mut out))?;
-        Ok(Picked::of(out[0]))
+        Ok(Picked::of(out))
     }
 
     /// What a member's next step would answer, a step that waits too, and a ticket for it. The run
@@ -298,18 +317,13 @@ impl Run {
     ) -> Result<Asked, Refusal> {
         let mut out = [0; raw::ASK_OUT];
         answered(raw::ask(task, plans, ends, &self.words, member, &mut out))?;
-        let [kind, low, high, member, change] = out;
-        let step = match kind {
-            raw::ASK_GO => Step::Go(mask([low, high])),
-            raw::ASK_WAIT => Step::Wait,
-            raw::ASK_COLLISION => Step::Collision,
-            number => unknown(number),
-        };
+        let [kind, new_low, new_high, low, high, member, change] = out;
+        let step = Step::of(kind, [new_low, new_high], [low, high]);
         Ok(Asked { step, ticket: Ticket { member: member as u8, change: change as u32 } })
     }
 
-    /// Does the pick that a ticket is for; its answer is what [`Run::ask`] gives on this run. A
-    /// ticket is stale once another pick or commit was done.
+    /// Does the pick that a ticket is for; its answer is what [`Run::ask`] gives on this run, with
+    /// what is missing. A ticket is stale once another pick or commit was done.
     pub fn commit(
         &mut self,
         task: &[u64],
@@ -320,24 +334,26 @@ impl Run {
         let mut out = [0; raw::COMMIT_OUT];
         let Ticket { member, change } = ticket;
         answered(raw::commit(task, plans, ends, &mut self.words, member, change, &mut out))?;
-        Ok(Picked::of(out[0]))
+        Ok(Picked::of(out))
     }
 
     /// Does picks in turn, each where the last one left the run: what each answers, a refusal for
-    /// one that was passed over.
+    /// one that was passed over. What a collision is missing is not told here; [`joint_replay`] and
+    /// [`step`] tell it.
     pub fn play(
         &mut self,
         task: &[u64],
         plans: &[u16],
         ends: &[u64],
         picks: &[u8],
-    ) -> Result<Vec<Result<Picked, Refusal>>, Refusal> {
+    ) -> Result<Vec<Result<Played, Refusal>>, Refusal> {
         let mut answers = vec![0; picks.len()];
         answered(raw::play(task, plans, ends, &mut self.words, picks, &mut answers))?;
         Ok(answers
             .into_iter()
             .map(|number| match number {
-                raw::PICK_GO | raw::PICK_COLLISION => Ok(Picked::of(number)),
+                raw::PICK_GO => Ok(Played::Go),
+                raw::PICK_COLLISION => Ok(Played::Collision),
                 number => Err(Refusal::of(number).unwrap_or_else(|| unknown(number))),
             })
             .collect())
@@ -348,17 +364,27 @@ impl Run {
 #[derive(Clone, Copy, Debug, PartialEq, Eq)]
 pub enum Picked {
     Go,
-    Collision,
+    /// The preconditions that the shared copy lacks.
+    Collision {
+        missing: Mask,
+    },
 }
 
 impl Picked {
-    fn of(number: u64) -> Picked {
-        match number {
+    fn of([kind, missing @ ..]: [u64; raw::PICK_OUT]) -> Picked {
+        match kind {
             raw::PICK_GO => Picked::Go,
-            raw::PICK_COLLISION => Picked::Collision,
+            raw::PICK_COLLISION => Picked::Collision { missing: mask(missing) },
             number => unknown(number),
         }
     }
+}
+
+/// What a pick of [`Run::play`] answers.
+#[derive(Clone, Copy, Debug, PartialEq, Eq)]
+pub enum Played {
+    Go,
+    Collision,
 }
 
 /// What [`Run::ask`] answers.
@@ -388,9 +414,10 @@ pub enum Verdict {
     Unsolvable {
         member: u8,
     },
-    /// Picks done before the fault, as below.
+    /// Picks done before the fault, as below, and the preconditions that the colliding pick lacks.
     Collision {
         picks: u64,
+        missing: Mask,
     },
     Deadlock {
         picks: u64,
@@ -434,7 +461,7 @@ impl Room {
     /// first means; it is the task's, whatever the room.
     pub fn conflict(&self, verdict: Verdict) -> Option<(&[u16], &[u8])> {
         let picks = match verdict {
-            Verdict::Collision { picks } => picks + 1,
+            Verdict::Collision { picks, .. } => picks + 1,
             Verdict::Deadlock { picks } | Verdict::Missed { picks, .. } => picks,
             Verdict::Robust { .. } | Verdict::Unsolvable { .. } => return None,
         };
@@ -458,11 +485,12 @@ pub fn verdict(task: &[u64], room: &mut Room) -> Result<Verdict, Refusal> {
         picks,
         &mut out,
     ))?;
-    let (member, number) = (out[1] as u8, out[2]);
-    Ok(match out[0] {
+    let [kind, member, number, missing @ ..] = out;
+    let member = member as u8;
+    Ok(match kind {
         raw::ROBUST => Verdict::Robust { configurations: number },
         raw::UNSOLVABLE => Verdict::Unsolvable { member },
-        raw::COLLISION => Verdict::Collision { picks: number },
+        raw::COLLISION => Verdict::Collision { picks: number, missing: mask(missing) },
         raw::DEADLOCK => Verdict::Deadlock { picks: number },
         raw::MISSED => Verdict::Missed { member, picks: number },
         number => unknown(number),

@@ -19,8 +19,8 @@ constants! {
         FULL = 9, OTHERS = 10, ENDS = 11, NO_SOLUTION = 12, PICK = 13, SHORT = 14, TEXT = 15,
         PDDL = 16, NAME = 17, MANY = 18, STALE = 19, CHANGES = 20;
     usize: FACTS = 128, MASK_WORDS = 2, ROW_WORDS = 9;
-    usize: STEP_OUT = 3, SOLO_REPLAY_OUT = 2, SOLO_SEARCH_OUT = 3, JOINT_REPLAY_OUT = 5,
-        PICK_OUT = 1, ASK_OUT = 5, COMMIT_OUT = 1, VERDICT_OUT = 3, READ_OUT = 1,
+    usize: STEP_OUT = 5, SOLO_REPLAY_OUT = 2, SOLO_SEARCH_OUT = 3, JOINT_REPLAY_OUT = 7,
+        PICK_OUT = 3, ASK_OUT = 7, COMMIT_OUT = 3, VERDICT_OUT = 5, READ_OUT = 1,
         PDDL_READ_OUT = 1, PDDL_WRITE_OUT = 2, RUN_WORDS = 12, TEXT_WORDS = 2385,
         PDDL_BYTES = 1048576;
     u64: STEP_GO = 0, STEP_WAIT = 1, STEP_COLLISION = 2;
@@ -38,7 +38,8 @@ pub fn task(task: &[u64]) -> u64 {
     unsafe { lawcheck_task(task.as_ptr(), task.len()) }
 }
 
-/// An action at a shared copy (two words). `out`: 0 go, 1 wait, 2 collision; the new shared copy.
+/// An action at a shared copy (two words). `out`: 0 go, 1 wait, 2 collision; the new shared copy;
+/// what is missing.
 pub fn step(task: &[u64], action: u16, shared: &[u64], out: &mut [u64]) -> u64 {
     unsafe {
         lawcheck_step(
@@ -93,7 +94,7 @@ pub fn solo_search(
 }
 
 /// A list of picks from the start. `out`: 0 success, 1 collision, 2 deadlock, 3 missed, 4 open; the
-/// member; the picks done; the shared copy.
+/// member; the picks done; the shared copy; what is missing.
 pub fn joint_replay(
     task: &[u64],
     plans: &[u16],
@@ -118,7 +119,7 @@ pub fn joint_replay(
 }
 
 /// A pick on a run of twelve words: collided, eight places, the shared copy, the change number.
-/// `out`: 0 go, 1 collision.
+/// `out`: 0 go, 1 collision; what is missing.
 pub fn pick(
     task: &[u64],
     plans: &[u16],
@@ -145,7 +146,7 @@ pub fn pick(
 }
 
 /// What a member's next step would answer on a run, and a ticket for it. `out`: 0 go, 1 wait, 2
-/// collision; the new shared copy; the ticket's member; its change number.
+/// collision; the new shared copy; what is missing; the ticket's member; its change number.
 pub fn ask(
     task: &[u64],
     plans: &[u16],
@@ -171,7 +172,7 @@ pub fn ask(
     }
 }
 
-/// The pick of a ticket, a member and a change number. `out`: 0 go, 1 collision.
+/// The pick of a ticket, a member and a change number. `out`: 0 go, 1 collision; what is missing.
 pub fn commit(
     task: &[u64],
     plans: &[u16],
@@ -234,7 +235,7 @@ pub fn play(
 }
 
 /// The verdict. `out`: 0 robust, 1 unsolvable, 2 collision, 3 deadlock, 4 missed; the member; the
-/// count of configurations or the picks done.
+/// count of configurations or the picks done; what is missing.
 #[allow(clippy::too_many_arguments)]
 pub fn verdict(
     task: &[u64],

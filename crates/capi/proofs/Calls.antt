@@ -86,27 +86,27 @@ long out k h = le-ltb (length out) k h
 module _ (t shared out : List ℕ) (action : ℕ) where
   abbrev StepCall : Call → Type 0
   StepCall c =
-      c ≡ called (not (eqb (length shared) stateWidth) || ltb (length out) 3) numbers.decision out
+      c ≡ called (not (eqb (length shared) stateWidth) || ltb (length out) 5) numbers.decision out
       (step t action (stateAt shared 0))
 
   abbrev stepShort : Bool
-  stepShort = not (eqb (length shared) stateWidth) || ltb (length out) 3
+  stepShort = not (eqb (length shared) stateWidth) || ltb (length out) 5
 
   pub step-shared : (length shared ≡ stateWidth → ⊥) → StepCall (call 14 out)
   step-shared h =
       short-call numbers.decision out (step t action (stateAt shared 0)) stepShort
-      (or-left (not (eqb (length shared) stateWidth)) (ltb (length out) 3)
+      (or-left (not (eqb (length shared) stateWidth)) (ltb (length out) 5)
       (ap not (ne-eqb (length shared) stateWidth h)))
 
-  pub step-short : length out < 3 → StepCall (call 14 out)
+  pub step-short : length out < 5 → StepCall (call 14 out)
   step-short h =
       short-call numbers.decision out (step t action (stateAt shared 0)) stepShort
-      (or-right (not (eqb (length shared) stateWidth)) (ltb (length out) 3) (lt-ltb (length out) 3 h))
+      (or-right (not (eqb (length shared) stateWidth)) (ltb (length out) 5) (lt-ltb (length out) 5 h))
 
-  module _ (one : length shared ≡ stateWidth) (room : 3 ≤ length out) (m : Mask) (e : number m ≡ stateAt shared 0)
+  module _ (one : length shared ≡ stateWidth) (room : 5 ≤ length out) (m : Mask) (e : number m ≡ stateAt shared 0)
       (s : Stepped) (is : steppedOf s ≡ step t action (number m)) where
     fits : stepShort ≡ false
-    fits = ap₂ _||_ (ap not (eq-eqb (length shared) stateWidth one)) (long out 3 room)
+    fits = ap₂ _||_ (ap not (eq-eqb (length shared) stateWidth one)) (long out 5 room)
 
     answered : (x : Stepped) → s ≡ x → step t action (stateAt shared 0) ≡ steppedOf x
     answered x so = ap (step t action) (sym e) ∙ sym is ∙ ap steppedOf so
@@ -150,25 +150,25 @@ module _ (t plan out : List ℕ) (member : ℕ) where
 
 module _ (t plans ends picks out : List ℕ) where
   abbrev JointCall : Call → Type 0
-  JointCall c = c ≡ called (ltb (length out) 5) numbers.replay out (jointReplay t plans ends picks)
+  JointCall c = c ≡ called (ltb (length out) 7) numbers.replay out (jointReplay t plans ends picks)
 
-  pub joint-short : length out < 5 → JointCall (call 14 out)
+  pub joint-short : length out < 7 → JointCall (call 14 out)
   joint-short h =
-      short-call numbers.replay out (jointReplay t plans ends picks) (ltb (length out) 5) (lt-ltb (length out) 5 h)
+      short-call numbers.replay out (jointReplay t plans ends picks) (ltb (length out) 7) (lt-ltb (length out) 7 h)
 
-  module _ (room : 5 ≤ length out) (s : ReplayAnswer)
+  module _ (room : 7 ≤ length out) (s : ReplayAnswer)
       (is : outcomeValue.replayedOf s ≡ jointReplay t plans ends picks) where
     pub joint-refused : (k : ℕ) → s ≡ replayed.Refused k → JointCall (call k out)
     joint-refused k so =
-        refused-call numbers.replay out (jointReplay t plans ends picks) (ltb (length out) 5) k (long out 5 room)
+        refused-call numbers.replay out (jointReplay t plans ends picks) (ltb (length out) 7) k (long out 7 room)
         (sym is ∙ ap outcomeValue.replayedOf so)
 
     pub joint-given : (r : Replay) (ns now : List ℕ) → s ≡ replayed.Gives r
-        → ns ≡ numbers.replayed (outcomeOf (r .outcome)) (r .picked) (number (r .shared .0)) → now ≡ front ns out
+        → ns ≡ numbers.replayed (outcomeOf (r .outcome)) (r .picked) (number (r .shared .0)) (number (r .missing)) → now ≡ front ns out
         → JointCall (call 0 now)
     joint-given r ns now so e put =
-        given-call numbers.replay out (jointReplay t plans ends picks) (ltb (length out) 5) (outcomeValue.replayOf r)
-        now (long out 5 room) (sym is ∙ ap outcomeValue.replayedOf so)
+        given-call numbers.replay out (jointReplay t plans ends picks) (ltb (length out) 7) (outcomeValue.replayOf r)
+        now (long out 7 room) (sym is ∙ ap outcomeValue.replayedOf so)
         (put ∙ ap (λ (x : List ℕ). front x out) e)
 
 -- ---- solo search
@@ -224,14 +224,14 @@ module _ (t table marks out : List ℕ) (member : ℕ) where
 -- ---- a pick and a commit on a run
 
 module _ (means : Answer (Paper.Replied (Numbered ℕ))) (run out : List ℕ) where
-  run-fails : noRun run || ltb (length out) 1 ≡ true → RunCall means run out (call 14 out) run
+  run-fails : noRun run || ltb (length out) 3 ≡ true → RunCall means run out (call 14 out) run
   run-fails e =
       record {
-        told = short-call numbers.picked out means (noRun run || ltb (length out) 1) e;
-        held = short-slice run (after run means) (noRun run || ltb (length out) 1) e;
+        told = short-call numbers.picked out means (noRun run || ltb (length out) 3) e;
+        held = short-slice run (after run means) (noRun run || ltb (length out) 3) e;
       }
 
-  run-answers : noRun run || ltb (length out) 1 ≡ false → (d : Dispatched) → means ≡ dispatchedOf d
+  run-answers : noRun run || ltb (length out) 3 ≡ false → (d : Dispatched) → means ≡ dispatchedOf d
       → (run′ : List ℕ) (c : Call) → c ≡ told numbers.picked out (dispatchedOf d)
       → run′ ≡ after run (dispatchedOf d) → RunCall means run out c run′
   run-answers e d is run′ c put held = record { told = rw (e, is) put; held = rw (e, is) held }
@@ -269,17 +269,17 @@ module _ (t plans ends run out : List ℕ) (member : ℕ) (b : Bool) (e : b ≡ 
   Picks c run′ = RunCall (pickNumbered t plans ends (runIn run) member) run out c run′
 
   pub pick-run : b ≡ true → Picks (call 14 out) run
-  pick-run h = run-fails (pickNumbered t plans ends (runIn run) member) run out (no-run run out 1 b e h)
+  pick-run h = run-fails (pickNumbered t plans ends (runIn run) member) run out (no-run run out 3 b e h)
 
-  pub pick-short : length out < 1 → Picks (call 14 out) run
-  pick-short h = run-fails (pickNumbered t plans ends (runIn run) member) run out (no-room run out 1 b e h)
+  pub pick-short : length out < 3 → Picks (call 14 out) run
+  pick-short h = run-fails (pickNumbered t plans ends (runIn run) member) run out (no-room run out 3 b e h)
 
-  pub pick-told : b ≡ false → 1 ≤ length out → (at : Given) → numberedOf at ≡ runIn run → (d : Dispatched)
+  pub pick-told : b ≡ false → 3 ≤ length out → (at : Given) → numberedOf at ≡ runIn run → (d : Dispatched)
       → DispatchMeans (pickNumbered t plans ends (numberedOf at) member) at d
       → (run′ now : List ℕ) (result : ℕ) → call result now ≡ told numbers.picked out (dispatchedOf d)
       → run′ ≡ after run (dispatchedOf d) → Picks (call result now) run′
   pick-told h room at is d m run′ now result put held =
-      run-answers (pickNumbered t plans ends (runIn run) member) run out (both-there run out 1 b e h room) d
+      run-answers (pickNumbered t plans ends (runIn run) member) run out (both-there run out 3 b e h room) d
       (run-means (λ x. pickNumbered t plans ends x member) run at is d m) run′ (call result now) put held
 
 module _ (t plans ends run out : List ℕ) (member change : ℕ) (b : Bool) (e : b ≡ noRun run) where
@@ -290,17 +290,17 @@ module _ (t plans ends run out : List ℕ) (member change : ℕ) (b : Bool) (e :
   Commits c run′ = RunCall (commitOn t plans ends (runIn run) ticket) run out c run′
 
   pub commit-run : b ≡ true → Commits (call 14 out) run
-  commit-run h = run-fails (commitOn t plans ends (runIn run) ticket) run out (no-run run out 1 b e h)
+  commit-run h = run-fails (commitOn t plans ends (runIn run) ticket) run out (no-run run out 3 b e h)
 
-  pub commit-short : length out < 1 → Commits (call 14 out) run
-  commit-short h = run-fails (commitOn t plans ends (runIn run) ticket) run out (no-room run out 1 b e h)
+  pub commit-short : length out < 3 → Commits (call 14 out) run
+  commit-short h = run-fails (commitOn t plans ends (runIn run) ticket) run out (no-room run out 3 b e h)
 
-  pub commit-told : b ≡ false → 1 ≤ length out → (at : Given) → numberedOf at ≡ runIn run → (d : Dispatched)
+  pub commit-told : b ≡ false → 3 ≤ length out → (at : Given) → numberedOf at ≡ runIn run → (d : Dispatched)
       → DispatchMeans (commitOn t plans ends (numberedOf at) ticket) at d
       → (run′ now : List ℕ) (result : ℕ) → call result now ≡ told numbers.picked out (dispatchedOf d)
       → run′ ≡ after run (dispatchedOf d) → Commits (call result now) run′
   commit-told h room at is d m run′ now result put held =
-      run-answers (commitOn t plans ends (runIn run) ticket) run out (both-there run out 1 b e h room) d
+      run-answers (commitOn t plans ends (runIn run) ticket) run out (both-there run out 3 b e h room) d
       (run-means (λ x. commitOn t plans ends x ticket) run at is d m) run′ (call result now) put held
 
 -- ---- an ask
@@ -308,22 +308,22 @@ module _ (t plans ends run out : List ℕ) (member change : ℕ) (b : Bool) (e :
 module _ (t plans ends run out : List ℕ) (member : ℕ) (b : Bool) (e : b ≡ noRun run) where
   abbrev AskCall : Call → Type 0
   AskCall c =
-      c ≡ called (noRun run || ltb (length out) 5) numbers.asked out (askOn t plans ends (runIn run) member)
+      c ≡ called (noRun run || ltb (length out) 7) numbers.asked out (askOn t plans ends (runIn run) member)
 
-  ask-fails : noRun run || ltb (length out) 5 ≡ true → AskCall (call 14 out)
-  ask-fails = short-call numbers.asked out (askOn t plans ends (runIn run) member) (noRun run || ltb (length out) 5)
+  ask-fails : noRun run || ltb (length out) 7 ≡ true → AskCall (call 14 out)
+  ask-fails = short-call numbers.asked out (askOn t plans ends (runIn run) member) (noRun run || ltb (length out) 7)
 
   pub ask-run : b ≡ true → AskCall (call 14 out)
-  ask-run h = ask-fails (no-run run out 5 b e h)
+  ask-run h = ask-fails (no-run run out 7 b e h)
 
-  pub ask-short : length out < 5 → AskCall (call 14 out)
-  ask-short h = ask-fails (no-room run out 5 b e h)
+  pub ask-short : length out < 7 → AskCall (call 14 out)
+  ask-short h = ask-fails (no-room run out 7 b e h)
 
-  pub ask-told : b ≡ false → 5 ≤ length out → (at : Given) → numberedOf at ≡ runIn run → (a : AskAnswer)
+  pub ask-told : b ≡ false → 7 ≤ length out → (at : Given) → numberedOf at ≡ runIn run → (a : AskAnswer)
       → askedOf a ≡ askOn t plans ends (numberedOf at) member → (c : Call) → c ≡ told numbers.asked out (askedOf a)
       → AskCall c
   ask-told h room at is a q c put =
-      rw (both-there run out 5 b e h room)
+      rw (both-there run out 7 b e h room)
       (put ∙ ap (told numbers.asked out) (q ∙ ap (λ (d : Numbered ℕ). askOn t plans ends d member) is))
 
 -- ---- the readers of a text and of PDDL
@@ -413,15 +413,15 @@ module _ (means : Writing) (text waits out : List ℕ) where
 -- ---- the verdict
 
 module _ (t out : List ℕ) (before : Slices) where
-  pub verdict-short : length out < 3
-      → verdictCall (ltb (length out) 3) t before before numbers.verdict out (call 14 out)
+  pub verdict-short : length out < 5
+      → verdictCall (ltb (length out) 5) t before before numbers.verdict out (call 14 out)
   verdict-short h =
       subst (λ (b : Bool). verdictCall b t before before numbers.verdict out (call 14 out))
-      (sym (lt-ltb (length out) 3 h)) (refl, refl)
+      (sym (lt-ltb (length out) 5 h)) (refl, refl)
 
-  pub verdict-told : 3 ≤ length out → (after′ : Slices) (v : VerdictAnswer) (c : Call)
+  pub verdict-told : 5 ≤ length out → (after′ : Slices) (v : VerdictAnswer) (c : Call)
       → VerdictMeans t before after′ (answerOf v) → c ≡ told numbers.verdict out (answerOf v)
-      → verdictCall (ltb (length out) 3) t before after′ numbers.verdict out c
+      → verdictCall (ltb (length out) 5) t before after′ numbers.verdict out c
   verdict-told room after′ v c means e =
-      subst (λ (b : Bool). verdictCall b t before after′ numbers.verdict out c) (sym (long out 3 room))
+      subst (λ (b : Bool). verdictCall b t before after′ numbers.verdict out c) (sym (long out 5 room))
       (answerOf v, means, e)

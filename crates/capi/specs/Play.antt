@@ -17,8 +17,8 @@ use Rattle.capi_run.specs.Runs.{runWords, noRun, runIn, wordsOfRun, after}
 
 -- a pick or a commit with this meaning, on the run that the words hold: 14 where they hold none or `out` has no room
 pub record RunCall (means : Answer (Replied (Numbered ℕ))) (run out : List ℕ) (c : Call) (run′ : List ℕ) : Type 0 where
-  pub told : c ≡ called (noRun run || ltb (length out) 1) numbers.picked out means
-  pub held : run′ ≡ unlessShort (noRun run || ltb (length out) 1) run (after run means)
+  pub told : c ≡ called (noRun run || ltb (length out) 3) numbers.picked out means
+  pub held : run′ ≡ unlessShort (noRun run || ltb (length out) 3) run (after run means)
 
 -- 14 for too few words, then the task check
 abbrev pub startRefusal : List ℕ → List ℕ → ℕ

@@ -47,13 +47,13 @@ pub extern "C" fn lawcheck_task(t: &[u64]) -> u64
 pub extern "C" fn lawcheck_step(t: &[u64], action: u16, shared: &[u64], out: &mut [u64]) -> u64
     ensures { λ r. ⌜ call r (now (out .exit))
         ≡ called (not (eqb (length (now (shared .entry))) stateWidth) || ltb
-        (length (now (out .entry))) 3) numbers.decision (now (out .entry))
+        (length (now (out .entry))) 5) numbers.decision (now (out .entry))
         (step (now (t .entry)) action (stateAt (now (shared .entry)) 0)) ⌝ }
 {
     if shared.len() != mask::WORDS {
         return SHORT;
     }
-    if out.len() < 3 {
+    if out.len() < 5 {
         return SHORT;
     }
     let s = step::step(t, action, Shared(mask::load(shared, 0)));
@@ -137,11 +137,11 @@ pub extern "C" fn lawcheck_joint_replay(
     out: &mut [u64],
 ) -> u64
     ensures { λ r. ⌜ call r (now (out .exit))
-        ≡ called (ltb (length (now (out .entry))) 5) numbers.replay (now (out .entry))
+        ≡ called (ltb (length (now (out .entry))) 7) numbers.replay (now (out .entry))
         (jointReplay (now (t .entry)) (now (plans .entry)) (now (ends .entry))
         (now (picks .entry))) ⌝ }
 {
-    if out.len() < 5 {
+    if out.len() < 7 {
         return SHORT;
     }
     let s = run_replay::joint_replay(t, plans, ends, picks);
@@ -150,7 +150,7 @@ pub extern "C" fn lawcheck_joint_replay(
         ReplayAnswer::Gives(r) => {
             let o = r.outcome;
             let g = r.shared;
-            let numbers = capi_numbers::replay_numbers(o, r.picked as u64, g.0);
+            let numbers = capi_numbers::replay_numbers(o, r.picked as u64, g.0, r.missing);
             capi_numbers::put(out, &numbers);
             0
         }
@@ -176,7 +176,7 @@ pub extern "C" fn lawcheck_pick(
     if capi_run::no_run(run) {
         return SHORT;
     }
-    if out.len() < 1 {
+    if out.len() < 3 {
         return SHORT;
     }
     let p = run_dispatch::once(t, plans, ends, capi_run::run_of(run), member);
@@ -193,7 +193,7 @@ pub extern "C" fn lawcheck_ask(
     out: &mut [u64],
 ) -> u64
     ensures { λ r. ⌜ call r (now (out .exit))
-        ≡ called (noRun (now (run .entry)) || ltb (length (now (out .entry))) 5)
+        ≡ called (noRun (now (run .entry)) || ltb (length (now (out .entry))) 7)
         numbers.asked (now (out .entry))
         (askOn (now (t .entry)) (now (plans .entry)) (now (ends .entry))
         (runIn (now (run .entry))) member) ⌝ }
@@ -201,7 +201,7 @@ pub extern "C" fn lawcheck_ask(
     if capi_run::no_run(run) {
         return SHORT;
     }
-    if out.len() < 5 {
+    if out.len() < 7 {
         return SHORT;
     }
     let a = run_ticket::ask(t, plans, ends, capi_run::run_of(run), member);
@@ -226,7 +226,7 @@ pub extern "C" fn lawcheck_commit(
     if capi_run::no_run(run) {
         return SHORT;
     }
-    if out.len() < 1 {
+    if out.len() < 3 {
         return SHORT;
     }
     let ticket = Ticket {
@@ -296,14 +296,14 @@ pub extern "C" fn lawcheck_verdict(
     picks: &mut [u8],
     out: &mut [u64],
 ) -> u64
-    ensures { λ r. ⌜ verdictCall (ltb (length (now (out .entry))) 3) (now (t .entry))
+    ensures { λ r. ⌜ verdictCall (ltb (length (now (out .entry))) 5) (now (t .entry))
         (lentOf (now (local .entry)) (now (marks .entry)) (now (confs .entry))
         (now (trail .entry)) (now (plans .entry)) (now (ends .entry)) (now (picks .entry)))
         (lentOf (now (local .exit)) (now (marks .exit)) (now (confs .exit)) (now (trail .exit))
         (now (plans .exit)) (now (ends .exit)) (now (picks .exit))) numbers.verdict
         (now (out .entry)) (call r (now (out .exit))) ⌝ }
 {
-    if out.len() < 3 {
+    if out.len() < 5 {
         return SHORT;
     }
     let v = verdict::verdict(t, local, marks, confs, trail, plans, ends, picks);

@@ -26,6 +26,7 @@ use Rattle.step.specs.declared.Decision.the-variants as decision
 use Rattle.run_pick.specs.Value.{closedOf, runOf, replyOf}
 use Rattle.run_pick.specs.declared.Answer.the-variants as answer
 use Rattle.run_pick.specs.declared.Reply.{Reply}
+use Rattle.run_pick.specs.declared.Reply.the-variants as reply
 use Rattle.run_pick.specs.declared.Closed.{Closed}
 use Rattle.run_pick.specs.declared.Closed.the-variants.{NotYet, By}
 use Rattle.run_pick.specs.declared.Run.{Run}
@@ -110,10 +111,14 @@ module _ (p : Dispatched) (out : List ℕ) where
   pub refused-call : (k : ℕ) → p .answer ≡ answer.Refused k → call k out ≡ tells numbers.picked out (dispatchedOf p)
   refused-call k e = rw e
 
-  pub done-call : (r : Reply) → p .answer ≡ answer.Gives r → (n : ℕ) → n ≡ numbers.reply (replyOf r)
-      → (c : ℕ) (out′ : List ℕ) → call c out′ ≡ call 0 (front (n ∷ []) out)
+  pub done-call : (r : Reply) → p .answer ≡ answer.Gives r → (ns : List ℕ) → ns ≡ numbers.reply (replyOf r)
+      → (c : ℕ) (out′ : List ℕ) → call c out′ ≡ call 0 (front ns out)
       → call c out′ ≡ tells numbers.picked out (dispatchedOf p)
-  done-call r e n q c out′ put = rw e (put ∙ rw q)
+  done-call r e ns q c out′ put = rw e (put ∙ ap (λ (x : List ℕ). call 0 (front x out)) q)
+
+pub reply-collides : (r : Reply) (m : Mask) → r ≡ reply.Collision m → (w : List ℕ) → w ≡ wordsOf (number m)
+    → 1 ∷ getD w 0 0 ∷ getD w 1 0 ∷ [] ≡ numbers.reply (replyOf r)
+reply-collides r m e w q = rw (e, q)
 
 module _ (p : Dispatched) (words : List ℕ) where
   pub refused-words : (k : ℕ) → p .answer ≡ answer.Refused k → words ≡ after words (dispatchedOf p)
@@ -125,17 +130,19 @@ module _ (p : Dispatched) (words : List ℕ) where
 
 module _ (d : Decision) (k : Ticket) where
   pub asked-go : (g : Shared) → d ≡ decision.Go g → (w : List ℕ) → w ≡ wordsOf (number (g .0))
-      → 0 ∷ getD w 0 0 ∷ getD w 1 0 ∷ k .member ∷ k .change ∷ []
+      → 0 ∷ getD w 0 0 ∷ getD w 1 0 ∷ 0 ∷ 0 ∷ k .member ∷ k .change ∷ []
       ≡ numbers.asked (record { decision = decisionOf d; ticket = ticketOf k })
   asked-go g e w q = rw (e, q)
 
   pub asked-wait : d ≡ decision.Wait
-      → 1 ∷ 0 ∷ 0 ∷ k .member ∷ k .change ∷ [] ≡ numbers.asked (record { decision = decisionOf d; ticket = ticketOf k })
+      → 1 ∷ 0 ∷ 0 ∷ 0 ∷ 0 ∷ k .member ∷ k .change ∷ []
+      ≡ numbers.asked (record { decision = decisionOf d; ticket = ticketOf k })
   asked-wait e = rw e
 
-  pub asked-collision : d ≡ decision.Collision
-      → 2 ∷ 0 ∷ 0 ∷ k .member ∷ k .change ∷ [] ≡ numbers.asked (record { decision = decisionOf d; ticket = ticketOf k })
-  asked-collision e = rw e
+  pub asked-collision : (m : Mask) → d ≡ decision.Collision m → (w : List ℕ) → w ≡ wordsOf (number m)
+      → 2 ∷ 0 ∷ 0 ∷ getD w 0 0 ∷ getD w 1 0 ∷ k .member ∷ k .change ∷ []
+      ≡ numbers.asked (record { decision = decisionOf d; ticket = ticketOf k })
+  asked-collision m e w q = rw (e, q)
 
 module _ (out : List ℕ) (a : AskAnswer) where
   pub ask-refused : (e : ℕ) → a ≡ asked.Refused e → call e out ≡ tells numbers.asked out (askedOf a)

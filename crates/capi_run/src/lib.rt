@@ -1,7 +1,6 @@
 // A run of the C interface: its words, and what a pick, a commit and an ask on it answer.
 ghost use mathlib.Core.Path.{_≡_};
 ghost use mathlib.Core.Bool.{false};
-ghost use mathlib.Core.List.{[], _∷_};
 ghost use Prim.Native.Nat.{_≤_};
 ghost use lib.ListN.{length};
 ghost use Rattle.semantics.specs.Base.{front};
@@ -127,33 +126,36 @@ pub fn words_of(d: Numbered) -> [u64; RUN_WORDS]
 
 // ---- what is told
 
-fn reply_number(r: Reply) -> u64
+fn reply_numbers(r: Reply) -> [u64; 3]
     ensures { λ n. ⌜ n ≡ numbers.reply (replyOf r) ⌝ }
 {
     match r {
-        Reply::Go => 0,
-        Reply::Collision => 1,
+        Reply::Go => [0, 0, 0],
+        Reply::Collision(missing) => {
+            let w = mask::words(missing);
+            [1, w[0], w[1]]
+        }
     }
 }
 
-// The run after a pick that was done, and the pick's number.
-fn done(words: &mut [u64], d: Numbered, out: &mut [u64], number: u64) -> u64
+// The run after a pick that was done, and the pick's numbers.
+fn done(words: &mut [u64], d: Numbered, out: &mut [u64], numbers: &[u64]) -> u64
     requires { ⌜ runWords ≤ length (now words) ⌝ }
-    requires { ⌜ 1 ≤ length (now out) ⌝ }
-    ensures { λ c. ⌜ call c (now (out .exit)) ≡ call 0 (front (number ∷ []) (now (out .entry))) ⌝ }
+    requires { ⌜ length (now numbers) ≤ length (now out) ⌝ }
+    ensures { λ c. ⌜ call c (now (out .exit))
+        ≡ call 0 (front (now (numbers .entry)) (now (out .entry))) ⌝ }
     ensures { λ _. ⌜ now (words .exit) ≡ front (wordsOfRun (numberedOf d)) (now (words .entry)) ⌝ }
 {
     let w = words_of(d);
     capi_numbers::put(words, &w);
-    let numbers = [number];
-    capi_numbers::put(out, &numbers);
+    capi_numbers::put(out, numbers);
     0
 }
 
 // What a pick or a commit answers, and the run after it.
 pub fn tell_dispatched(words: &mut [u64], p: Dispatched, out: &mut [u64]) -> u64
     requires { ⌜ runWords ≤ length (now words) ⌝ }
-    requires { ⌜ 1 ≤ length (now out) ⌝ }
+    requires { ⌜ 3 ≤ length (now out) ⌝ }
     ensures { λ c. ⌜ call c (now (out .exit))
         ≡ told numbers.picked (now (out .entry)) (dispatchedOf p) ⌝ }
     ensures { λ _. ⌜ now (words .exit) ≡ after (now (words .entry)) (dispatchedOf p) ⌝ }
@@ -163,13 +165,13 @@ pub fn tell_dispatched(words: &mut [u64], p: Dispatched, out: &mut [u64]) -> u64
     match a {
         Answer::Refused(k) => k,
         Answer::Gives(r) => {
-            let n = reply_number(r);
-            done(words, d, out, n)
+            let numbers = reply_numbers(r);
+            done(words, d, out, &numbers)
         }
     }
 }
 
-fn asked_numbers(d: Decision, k: Ticket) -> [u64; 5]
+fn asked_numbers(d: Decision, k: Ticket) -> [u64; 7]
     ensures { λ r. ⌜ r ≡ numbers.asked (record { decision = decisionOf d; ticket = ticketOf k }) ⌝ }
 {
     let j = k.member as u64;
@@ -177,16 +179,19 @@ fn asked_numbers(d: Decision, k: Ticket) -> [u64; 5]
     match d {
         Decision::Go(g) => {
             let w = mask::words(g.0);
-            [0, w[0], w[1], j, n]
+            [0, w[0], w[1], 0, 0, j, n]
         }
-        Decision::Wait => [1, 0, 0, j, n],
-        Decision::Collision => [2, 0, 0, j, n],
+        Decision::Wait => [1, 0, 0, 0, 0, j, n],
+        Decision::Collision(missing) => {
+            let w = mask::words(missing);
+            [2, 0, 0, w[0], w[1], j, n]
+        }
     }
 }
 
 // What an ask answers.
 pub fn tell_asked(a: AskAnswer, out: &mut [u64]) -> u64
-    requires { ⌜ 5 ≤ length (now out) ⌝ }
+    requires { ⌜ 7 ≤ length (now out) ⌝ }
     ensures { λ c. ⌜ call c (now (out .exit))
         ≡ told numbers.asked (now (out .entry)) (askedOf a) ⌝ }
 {

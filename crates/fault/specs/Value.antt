@@ -2,6 +2,7 @@
 use Rattle.semantics.specs.Base.{Answer, refused, gives}
 use Rattle.semantics.specs.Run as Run
 use Rattle.semantics.specs.Verdict as Paper
+use Rattle.mask.specs.Number.{number}
 use Rattle.fault.specs.declared.Fault.{Fault}
 use Rattle.fault.specs.declared.Fault.the-variants.{Collision, Deadlock, Missed}
 use Rattle.fault.specs.declared.Failing.{Failing}
@@ -16,7 +17,7 @@ faultOf Deadlock = Run.deadlock
 faultOf (Missed j) = Run.missed j
 
 abbrev pub failingOf : Failing → Paper.Failing
-failingOf f = record { fault = faultOf (f .fault); picked = f .picked }
+failingOf f = record { fault = faultOf (f .fault); picked = f .picked; missing = number (f .missing) }
 
 abbrev pub verdictOf : Verdict → Paper.Verdict Paper.Failing
 verdictOf (Unsolvable i) = Paper.unsolvable i

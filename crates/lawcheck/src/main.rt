@@ -32,7 +32,7 @@ fn text_room() -> [u8; TEXT_ROOM]
 
 // Room for the longest file.
 fn file_room() -> [u8; program::MOST_BYTES]
-    ensures { λ r. ⌜ 203065 ≡ length r ⌝ }
+    ensures { λ r. ⌜ 207289 ≡ length r ⌝ }
 {
     [0; program::MOST_BYTES]
 }

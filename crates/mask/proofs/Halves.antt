@@ -1,16 +1,17 @@
 -- A mask is its two words: what holds of both words holds of the mask. Assumes nothing.
 use mathlib.Core.Path.{_≡_, refl, sym, ap, _∙_}
 use mathlib.Core.Bool.{Bool, true, false, not, _&&_}
-use Prim.Native.Nat.{ℕ, _+_, _-_, _*_, _/_, _^_, _≤_, _<_}
+use Prim.Native.Nat.{ℕ, _+_, _-_, _*_, _/_, _%_, _^_, _≤_, _<_}
 use native.Mathlib.Nat.{div-eq-of-lt, lt-div-mul-add, lt-of-lt-of-le, zero-mul}
 use native.Mathlib.Omega.{arith}
 use lib.Dec.{eqb, ltb}
 use lib.Bits.{bitAnd, bitOr, and-block, or-block, and-le-l, and-lt}
 use lib.Pow.{pow-pos, pow-mono, pow-add}
 use borrow.Author.Tests.{eq-eqb, ne-eqb, eqb-true, ltb-true, ltb-false, lt-ltb, le-ltb, not-true, not-false}
-use Rattle.semantics.specs.Mask.{within, after, below}
+use Rattle.semantics.specs.Mask.{has, within, without, after, below}
 use Rattle.semantics.specs.Words.{ofWords}
 use Rattle.theory.proofs.Lists.{test-ext, and-elim, and-intro}
+use Rattle.theory.proofs.Masks.{word-has}
 
 -- ---- a word by itself
 
@@ -25,6 +26,11 @@ shift-below F x = told (ltb x (2 ^ F)) refl
     told : (b : Bool) → ltb x (2 ^ F) ≡ b → eqb (x / 2 ^ F) 0 ≡ b
     told true h = eq-eqb (x / 2 ^ F) 0 (div-eq-of-lt (ltb-true x (2 ^ F) h))
     told false h = ne-eqb (x / 2 ^ F) 0 (not-zero (ltb-false x (2 ^ F) h))
+
+-- without, then with
+pub after-word : (s a d x : ℕ) → x ≡ without s d → bitOr x a ≡ after s a d
+unfolding after
+after-word s a d x e = ap (λ (y : ℕ). bitOr y a) e
 
 -- a word has no bit at or above 64
 pub word-below : (F x : ℕ) → 64 ≤ F → x < 2 ^ 64 → true ≡ below F x
@@ -62,18 +68,21 @@ within-words a b c d la lc =
     ap (λ (x : ℕ). eqb x (ofWords a b)) (and-words a b c d la lc)
     ∙ same-words (bitAnd a c) (bitAnd b d) a b (and-lt 64 a c la lc) la
 
+pub without-words : (a b c d : ℕ) → a < 2 ^ 64 → c < 2 ^ 64
+    → without (ofWords a b) (ofWords c d) ≡ ofWords (without a c) (without b d)
+without-words a b c d la lc =
+    let x = and-words a b c d la lc in
+    let low = and-le-l a c in
+    let high = and-le-l b d in
+    omega (arith, x, low, high)
+
 pub after-words : (s s′ a a′ d d′ : ℕ) → s < 2 ^ 64 → a < 2 ^ 64 → d < 2 ^ 64
     → after (ofWords s s′) (ofWords a a′) (ofWords d d′) ≡ ofWords (after s a d) (after s′ a′ d′)
 unfolding after
 after-words s s′ a a′ d d′ ls la ld =
-    let x = and-words s s′ d d′ ls ld in
-    let low = and-le-l s d in
-    let high = and-le-l s′ d′ in
-    let rest : ofWords s s′ - bitAnd (ofWords s s′) (ofWords d d′) ≡ ofWords (s - bitAnd s d) (s′ - bitAnd s′ d′) =
-    omega (arith, x, low, high) in
-    let fits : s - bitAnd s d < 2 ^ 64 = omega arith in
-    ap (λ (y : ℕ). bitOr y (ofWords a a′)) rest
-    ∙ or-block 64 (s′ - bitAnd s′ d′) a′ (s - bitAnd s d) a fits la
+    let fits : without s d < 2 ^ 64 = omega arith in
+    ap (λ (y : ℕ). bitOr y (ofWords a a′)) (without-words s s′ d d′ ls ld)
+    ∙ or-block 64 (without s′ d′) a′ (without s d) a fits la
 
 module _ (F a b : ℕ) (la : a < 2 ^ 64) where
   -- from 64 facts on the high word tells
@@ -117,6 +126,10 @@ module _ (a b c d : ℕ) (la : a < 2 ^ 64) (lc : c < 2 ^ 64) where
     pub within-low : not w ≡ false → (v : Bool) → v ≡ within b d → v ≡ within (ofWords a b) (ofWords c d)
     within-low h v k = rw (within-words a b c d la lc, ← e, not-false w h, ← k)
 
+pub without-both : (a b c d x y : ℕ) → a < 2 ^ 64 → c < 2 ^ 64 → x ≡ without a c → y ≡ without b d
+    → ofWords x y ≡ without (ofWords a b) (ofWords c d)
+without-both a b c d x y la lc e k = rw (without-words a b c d la lc, ← e, ← k)
+
 pub after-both : (s s′ a a′ d d′ x y : ℕ) → s < 2 ^ 64 → a < 2 ^ 64 → d < 2 ^ 64 → x ≡ after s a d → y ≡ after s′ a′ d′
     → ofWords x y ≡ after (ofWords s s′) (ofWords a a′) (ofWords d d′)
 after-both s s′ a a′ d d′ x y ls la ld e k = rw (after-words s s′ a a′ d d′ ls la ld, ← e, ← k)
@@ -127,3 +140,17 @@ module _ (F a b : ℕ) (la : a < 2 ^ 64) (w : Bool) where
 
   pub below-by-low : b ≡ 0 → w ≡ below F a → w ≡ below F (ofWords a b)
   below-by-low h e = e ∙ below-low F a b la h
+
+-- a fact stands in its word
+module _ (f a b : ℕ) (la : a < 2 ^ 64) (w : Bool) where
+  pub has-by-low : f < 64 → w ≡ has f a → w ≡ has f (ofWords a b)
+  has-by-low h e =
+      let d : f / 64 ≡ 0 = omega arith in
+      let m : f % 64 ≡ f = omega arith in
+      e ∙ sym (word-has f a b (omega arith) la ∙ rw (d, m))
+
+  pub has-by-high : f < 128 → 64 ≤ f → w ≡ has (f - 64) b → w ≡ has f (ofWords a b)
+  has-by-high k h e =
+      let d : f / 64 ≡ 1 = omega arith in
+      let m : f % 64 ≡ f - 64 = omega arith in
+      e ∙ sym (word-has f a b k la ∙ rw (d, m))

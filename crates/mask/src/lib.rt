@@ -4,7 +4,7 @@ ghost use mathlib.Core.Path.{_≡_};
 ghost use Prim.Native.Nat.{_<_};
 ghost use lib.ListN.{length};
 ghost use lib.Dec.{eqb};
-ghost use Rattle.semantics.specs.Mask.{within, after, below};
+ghost use Rattle.semantics.specs.Mask.{has, within, without, after, below};
 ghost use Rattle.semantics.specs.Words.{ofWords, wordsOf, statesIn};
 ghost use Rattle.mask.specs.Number.{number};
 ghost use Rattle.mask.specs.Inner.Stored.{maskAt, withMask};
@@ -24,6 +24,13 @@ pub struct Local(pub Mask);
 
 // The shared copy.
 pub struct Shared(pub Mask);
+
+// No fact.
+pub fn none() -> Mask
+    ensures { λ r. ⌜ number r ≡ 0 ⌝ }
+{
+    Mask(0, 0)
+}
 
 // The mask that two words hold.
 pub fn of_words(low: u64, high: u64) -> Mask
@@ -84,12 +91,27 @@ fn word_within(a: u64, b: u64) -> bool
     a & b == a
 }
 
+// The facts of the word a that do not stand in b.
+fn word_without(a: u64, b: u64) -> u64
+    ensures { λ r. ⌜ r ≡ without a b ⌝ }
+{
+    a - (a & b)
+}
+
 // The word s without del, then with add.
 fn word_after(s: u64, add: u64, del: u64) -> u64
     ensures { λ r. ⌜ r ≡ after s add del ⌝ }
 {
-    let rest = s - (s & del);
+    let rest = word_without(s, del);
     rest | add
+}
+
+// Fact f of the word stands.
+fn word_has(x: u64, f: u64) -> bool
+    requires { ⌜ f < 64 ⌝ }
+    ensures { λ r. ⌜ r ≡ has f x ⌝ }
+{
+    (x >> f) % 2 == 1
 }
 
 // No bit of the word x at or above facts.
@@ -107,6 +129,13 @@ pub fn within(a: Mask, b: Mask) -> bool
         return false;
     }
     word_within(a.1, b.1)
+}
+
+// The facts of a that do not stand in b.
+pub fn without(a: Mask, b: Mask) -> Mask
+    ensures { λ r. ⌜ number r ≡ without (number a) (number b) ⌝ }
+{
+    Mask(word_without(a.0, b.0), word_without(a.1, b.1))
 }
 
 // The state s without del, then with add.
@@ -127,4 +156,15 @@ pub fn below(facts: u64, x: Mask) -> bool
         return false;
     }
     word_below(facts, x.0)
+}
+
+// Fact f, below 128, stands in m.
+pub fn has(m: Mask, f: u64) -> bool
+    requires { ⌜ f < 128 ⌝ }
+    ensures { λ r. ⌜ r ≡ has f (number m) ⌝ }
+{
+    if f < 64 {
+        return word_has(m.0, f);
+    }
+    word_has(m.1, f - 64)
 }

@@ -26,8 +26,8 @@ fn outside() -> Literals
     ensures { λ r. ⌜ Nothing r ⌝ }
 {
     Literals {
-        adds: pddl_words::none(),
-        dels: pddl_words::none(),
+        adds: mask::none(),
+        dels: mask::none(),
         known: true,
         place: pddl_form::Place::Outside,
     }
@@ -45,7 +45,7 @@ pub fn fact_of(text: &[u8], spans: &[usize], more: usize, s: usize, e: usize) ->
             known: true,
         },
         pddl_name::Found::Absent => Fact {
-            bit: pddl_words::none(),
+            bit: mask::none(),
             known: pddl_form::stands(text, more, s, e),
         },
     }
@@ -64,7 +64,7 @@ fn literal(text: &[u8], spans: &[usize], more: usize, s: usize, e: usize) -> Lit
                 let adds = f.bit;
                 Literals {
                     adds,
-                    dels: pddl_words::none(),
+                    dels: mask::none(),
                     known: f.known,
                     place: pddl_form::Place::At(n),
                 }
@@ -91,7 +91,7 @@ fn negation(text: &[u8], spans: &[usize], more: usize, at: usize) -> Literals
             let f = fact_of(text, spans, more, first, end);
             let dels = f.bit;
             Literals {
-                adds: pddl_words::none(),
+                adds: mask::none(),
                 dels,
                 known: f.known,
                 place: pddl_form::Place::At(n),
@@ -155,8 +155,8 @@ fn formulas(
     requires { ⌜ Ready (now text) (now spans) ⌝ }
     ensures { λ r. ⌜ ListAt (now (text .entry)) (now (spans .entry)) more negations allowed at r ⌝ }
 {
-    let mut adds = pddl_words::none();
-    let mut dels = pddl_words::none();
+    let mut adds = mask::none();
+    let mut dels = mask::none();
     let mut known = true;
     let mut i = at;
     loop {

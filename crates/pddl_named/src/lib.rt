@@ -39,7 +39,7 @@ pub fn facts_from(text: &[u8], spans: &[usize], more: usize, at: usize) -> Facts
     requires { ⌜ Ready (now text) (now spans) ⌝ }
     ensures { λ r. ⌜ FactsOf (now (text .entry)) (now (spans .entry)) more at r ⌝ }
 {
-    let mut mask = pddl_words::none();
+    let mut mask = mask::none();
     let mut known = true;
     let mut i = at;
     loop {
@@ -106,7 +106,7 @@ fn goal_named(
     if owner < MOST_MEMBERS {
         let at = pddl_words::ROW * owner;
         let facts = g.adds;
-        let none = pddl_words::none();
+        let none = mask::none();
         pddl_words::put_row(goals, at, owner as u64, facts, none, none, none);
     }
     g.known

@@ -7,13 +7,14 @@ use native.Mathlib.Omega.{arith}
 use lib.ListN.{length}
 use lib.Dec.{eqb, ltb}
 use borrow.Author.Tests.{ltb-true, ltb-false, le-leb, lt-leb}
+use Rattle.semantics.specs.Mask.{standing}
 use Rattle.semantics.specs.Base.{numbersFrom, upTo, allOf}
 use Rattle.semantics.specs.Task.{facts, members, initial, goal, pre, add, del}
 use Rattle.semantics.specs.Text.{isDigit, digitsIn, digits}
 use Rattle.semantics.specs.Pddl.{isLetter, inWord, isBlank, small, Token, opening, closing, word, Where, outer, inner}
 use Rattle.semantics.specs.Pddl.{tokensFrom, tokens, and′, not′, define′, domain′, problem′, :predicates, :action}
 use Rattle.semantics.specs.Pddl.{:parameters, :precondition, :effect, :domain, :init, :goal}
-use Rattle.semantics.specs.PddlWrite.{own, spelt, each, numbered, standing, atomText, negationText, effectsText}
+use Rattle.semantics.specs.PddlWrite.{own, spelt, each, numbered, atomText, negationText, effectsText}
 use Rattle.semantics.specs.PddlWrite.{actionText, domainText, goalText, problemText, memberText, membersText, lawText}
 use Rattle.text.proofs.Lists.{cond-ind, digit-high, all-both}
 use Rattle.theory.proofs.Lists.{and-elim, and-intro}

@@ -10,10 +10,9 @@ use lib.Bits.{bitOr}
 use lib.Dec.{eqb}
 use borrow.Author.Tests.{eqb-true, eq-eqb, lt-ltb}
 use Rattle.semantics.specs.Base.{numbersFrom, upTo, anyOf}
-use Rattle.semantics.specs.Mask.{has, below}
+use Rattle.semantics.specs.Mask.{has, below, standing}
 use Rattle.semantics.specs.Text.{number, digits}
 use Rattle.semantics.specs.Pddl.{same, bitFrom, maskOf}
-use Rattle.semantics.specs.PddlWrite.{standing}
 use Rattle.theory.proofs.Lists.{test-ext, true-not-false, not-true-false, and-elim, lt-or-ge}
 use Rattle.theory.proofs.Lists.{true-any, any-true, filter-mem, mem-filter, upTo-mem, mem-upTo}
 use Rattle.theory.proofs.Masks.{or-has, zero-has, mask-ext, below-has}

@@ -8,11 +8,11 @@ use lib.Bits.{bitOr, or-zero-l}
 use lib.ListN.{length}
 use borrow.Author.Tests.{lt-ltb, eq-eqb, ne-eqb}
 use Rattle.semantics.specs.Base.{allOf}
-use Rattle.semantics.specs.Mask.{below}
+use Rattle.semantics.specs.Mask.{below, standing}
 use Rattle.semantics.specs.Task.{facts, actions, wait, check}
 use Rattle.semantics.specs.Text.{comma, cr, lf, digits, recordsFrom, records, isRecord, textWords}
 use Rattle.semantics.specs.Pddl.{waitMask, waitsKnown}
-use Rattle.semantics.specs.PddlWrite.{order, each, numbered, standing, waitText, actionWaits, waitsText}
+use Rattle.semantics.specs.PddlWrite.{order, each, numbered, waitText, actionWaits, waitsText}
 use Rattle.theory.proofs.Lists.{and-intro}
 use Rattle.theory.proofs.Accepted.{accepted}
 use Rattle.text.specs.Inner.Written.{row, isWord}

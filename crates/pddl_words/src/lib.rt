@@ -20,13 +20,6 @@ pub const ROW: usize = 9;
 // The facts of a word.
 const WORD_FACTS: usize = 64;
 
-// No fact.
-pub fn none() -> Mask
-    ensures { λ r. ⌜ number r ≡ 0 ⌝ }
-{
-    mask::of_words(0, 0)
-}
-
 // Fact k alone.
 pub fn fact(k: usize) -> Mask
     requires { ⌜ k < mostFacts ⌝ }
@@ -42,7 +35,7 @@ pub fn fact(k: usize) -> Mask
 pub fn union(a: Mask, b: Mask) -> Mask
     ensures { λ r. ⌜ number r ≡ bitOr (number a) (number b) ⌝ }
 {
-    mask::after(a, b, none())
+    mask::after(a, b, mask::none())
 }
 
 // A mask, from a word on.
@@ -88,7 +81,7 @@ pub fn put_head(table: &mut [u64], facts: u64, members: u64, actions: u64, initi
         facts,
         mask::of_words(members, actions),
         initial,
-        none(),
-        none(),
+        mask::none(),
+        mask::none(),
     );
 }

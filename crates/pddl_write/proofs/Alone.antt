@@ -7,9 +7,9 @@ use native.Mathlib.Nat.{pow-suc, div-one}
 use native.Mathlib.Omega.{arith}
 use lib.Dec.{eqb}
 use borrow.Author.Tests.{eqb-true, eqb-false, eq-eqb, ne-eqb}
-use Rattle.semantics.specs.Mask.{has, within}
-use Rattle.theory.proofs.Lists.{bool-cases, test-ext}
-use Rattle.theory.proofs.Masks.{has-suc, zero-has, within-sub, sub-within}
+use Rattle.semantics.specs.Mask.{has}
+use Rattle.theory.proofs.Lists.{bool-cases}
+use Rattle.theory.proofs.Masks.{has-suc, zero-has}
 
 pub last-has : (x : ℕ) → x % 2 ≡ 1 → has 0 x ≡ true
 unfolding has
@@ -33,14 +33,3 @@ one-has (suc f) (suc g) =
     step (inl h) = h ∙ sym (eq-eqb (suc g) (suc f) (ap suc (eqb-true g f h)))
     step (inr h) =
         h ∙ sym (ne-eqb (suc g) (suc f) (λ e. let q : g ≡ f = omega arith in eqb-false g f h q))
-
--- it stands within a mask that has the fact
-alone-within : (f x : ℕ) → within (2 ^ f) x ≡ has f x
-alone-within f x =
-    test-ext (within (2 ^ f) x) (has f x)
-    (λ h. within-sub (2 ^ f) x h f (one-has f f ∙ eq-eqb f f refl))
-    (λ h. sub-within (2 ^ f) x
-    (λ g m. ap (λ (k : ℕ). has k x) (eqb-true g f (sym (one-has f g) ∙ m)) ∙ h))
-
-pub has-within : (f x n : ℕ) (r : Bool) → n ≡ 2 ^ f → r ≡ within n x → r ≡ has f x
-has-within f x n r e q = q ∙ ap (λ (m : ℕ). within m x) e ∙ alone-within f x

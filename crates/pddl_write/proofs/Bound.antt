@@ -9,10 +9,10 @@ use native.Mathlib.Omega.{arith}
 use lib.ListN.{length, length-append}
 use borrow.Author.Tests.{lt-ltb}
 use Rattle.semantics.specs.Base.{numbersFrom, upTo, keep}
-use Rattle.semantics.specs.Mask.{has}
+use Rattle.semantics.specs.Mask.{has, standing}
 use Rattle.semantics.specs.Task.{facts, members, actions, initial, goal, pre, wait, add, del, check}
 use Rattle.semantics.specs.Text.{comma, cr, lf, digits}
-use Rattle.semantics.specs.PddlWrite.{own, order, spelt, each, numbered, standing, atomText, negationText}
+use Rattle.semantics.specs.PddlWrite.{own, order, spelt, each, numbered, atomText, negationText}
 use Rattle.semantics.specs.PddlWrite.{effectsText, actionText, domainText, goalText, problemText, memberText}
 use Rattle.semantics.specs.PddlWrite.{membersText, lawText, waitText, actionWaits, waitsText}
 use Rattle.theory.proofs.Lists.{lt-or-ge, filter-mem, upTo-mem, upTo-length}

@@ -12,9 +12,9 @@ use lib.Pow.{pow-pos}
 use lib.Dec.{eqb}
 use borrow.Author.Tests.{lt-ltb, le-ltb, eq-eqb, ne-eqb}
 use Rattle.semantics.specs.Base.{upTo, allOf, collect, keep, padded}
-use Rattle.semantics.specs.Mask.{has}
+use Rattle.semantics.specs.Mask.{has, standing}
 use Rattle.semantics.specs.Task.{facts, members, actions, check}
-use Rattle.semantics.specs.PddlWrite.{own, each, numbered, standing, memberText, membersText, actionWaits}
+use Rattle.semantics.specs.PddlWrite.{own, each, numbered, memberText, membersText, actionWaits}
 use Rattle.theory.proofs.Lists.{and-elim, true-all, upTo-mem, upTo-length}
 use Rattle.theory.proofs.Masks.{has-suc}
 use Rattle.theory.proofs.Loops.{upTo-at}

@@ -5,14 +5,14 @@ use mathlib.Core.List.{List, [], _∷_, _++_, flatten}
 use Prim.Native.Nat.{ℕ}
 use lib.ListN.{replicate}
 use Rattle.semantics.specs.Base.{gives, numbersFrom, anyOf, allOf, collect, keep, firstRefusal}
-use Rattle.semantics.specs.Mask.{has, within, below}
+use Rattle.semantics.specs.Mask.{has, within, below, standing}
 use Rattle.semantics.specs.Task.{headFits, goalRow, actionRow, check}
 use Rattle.semantics.specs.Text.{recordsFrom, fieldsFrom, number, digitsIn, isField, isRecord, textWords}
 use Rattle.semantics.specs.Pddl.{inWord, isBlank, small, tokensFrom, same, noneTwice, isName, manyIn, sameToken}
 use Rattle.semantics.specs.Pddl.{expect, name, atom, negation, literal, formula, action, domain, problem, member}
 use Rattle.semantics.specs.Pddl.{membersOf, sameNames, wellNamed, waitsKnown, named, inLimits, bitFrom, maskOf}
 use Rattle.semantics.specs.Pddl.{waitMask, goalRows, ownRows, actionRows, wordsOf, readPddl}
-use Rattle.semantics.specs.PddlWrite.{own, order, rowOf, grouped, spelt, each, numbered, standing, atomText}
+use Rattle.semantics.specs.PddlWrite.{own, order, rowOf, grouped, spelt, each, numbered, atomText}
 use Rattle.semantics.specs.PddlWrite.{negationText, effectsText, actionText, domainText, goalText, problemText}
 use Rattle.semantics.specs.PddlWrite.{memberText, membersText, lawText, waitText, actionWaits, waitsText}
 

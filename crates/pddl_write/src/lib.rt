@@ -5,10 +5,10 @@ ghost use mathlib.Core.List.{[], _∷_};
 ghost use Prim.Native.Nat.{_-_, _^_, _≤_, _<_};
 ghost use lib.ListN.{length};
 ghost use Rattle.semantics.specs.Base.{upTo, padded};
-ghost use Rattle.semantics.specs.Mask.{has};
+ghost use Rattle.semantics.specs.Mask.{has, standing};
 ghost use Rattle.semantics.specs.Task.{facts, members, actions, add, check};
 ghost use Rattle.semantics.specs.Text.{digits};
-ghost use Rattle.semantics.specs.PddlWrite.{own, each, numbered, standing, atomText, negationText};
+ghost use Rattle.semantics.specs.PddlWrite.{own, each, numbered, atomText, negationText};
 ghost use Rattle.semantics.specs.PddlWrite.{effectsText, actionText, domainText, goalText};
 ghost use Rattle.semantics.specs.PddlWrite.{problemText, memberText, lawText, waitText};
 ghost use Rattle.semantics.specs.PddlWrite.{actionWaits, waitsText, writePddl};
@@ -81,14 +81,6 @@ fn put_told(out: &mut [u8], at: usize, before: &[u8], v: u64, after: &[u8]) -> u
     put(out, end, after)
 }
 
-// Whether fact f, below 128, stands in the mask.
-fn has(m: Mask, f: u64) -> bool
-    requires { ⌜ f < mostFacts ⌝ }
-    ensures { λ r. ⌜ r ≡ has f (number m) ⌝ }
-{
-    mask::within(pddl_words::fact(f as usize), m)
-}
-
 // Fact f, if it stands in the mask.
 fn put_fact(out: &mut [u8], at: usize, before: &[u8], after: &[u8], m: Mask, f: u64) -> usize
     requires { ⌜ f < mostFacts ⌝ }
@@ -96,7 +88,7 @@ fn put_fact(out: &mut [u8], at: usize, before: &[u8], after: &[u8], m: Mask, f: 
         (chosen (has f (number m)) (between (now (before .entry)) (now (after .entry)) f))
         (now (out .entry)) at (now (out .exit)) r ⌝ }
 {
-    if has(m, f) {
+    if mask::has(m, f) {
         return put_told(out, at, before, f, after);
     }
     at
@@ -337,7 +329,7 @@ fn put_record(out: &mut [u8], at: usize, k: usize, m: Mask, f: u64) -> usize
     ensures { λ r. ⌜ Put (chosen (has f (number m)) (waitText k f)) (now (out .entry)) at
         (now (out .exit)) r ⌝ }
 {
-    if has(m, f) {
+    if mask::has(m, f) {
         let comma = put_number(out, at, k as u64);
         return put_told(out, comma, b",", f, b"\r\n");
     }

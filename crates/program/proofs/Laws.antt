@@ -33,7 +33,7 @@ use Rattle.text.specs.declared.TextRead.{TextRead}
 use Rattle.text.specs.declared.TextRead.the-variants.{Refused, Gives}
 use Rattle.run_plans.proofs.Laws.{part}
 use Rattle.report.specs.File.{word, header, line, file}
-use Rattle.report.specs.Inner.Put.{mostFile, Holds}
+use Rattle.report.specs.Inner.Put.{mostFile, mostFacts, Holds}
 use Rattle.program.specs.Program.{localWords, configurationWords, K, C, lentFor, reported, printedFor}
 use Rattle.program.specs.Program.{printed, AtFront}
 use Rattle.program.specs.Inner.Most.{mostBytes}
@@ -269,7 +269,7 @@ module _ (t : List ℕ) (before after : Slices) (answer : Answer (Verdict Failin
   -- the file fits
   pub file-fits : check t ≡ 0 → before ≡ lentFor t → length (after .plans) ≡ length (before .plans)
       → length (after .picks) ≡ length (before .picks)
-      → mostFile (1 + members t + length (after .plans) + length (after .picks)) ≤ mostBytes
+      → mostFile (1 + mostFacts + members t + length (after .plans) + length (after .picks)) ≤ mostBytes
   unfolding lentFor
   file-fits ok lent p q =
       let e : length (before .plans) ≡ C t + members t * K t =

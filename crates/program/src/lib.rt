@@ -29,9 +29,10 @@ const MOST_CONFIGURATIONS: usize = CONFIGURATION_COPIES / 2;
 pub const MOST_TEXT: usize = text::MOST_RECORDS * (text::ROW * 20 + text::ROW - 1 + 2);
 
 // The bytes of the longest file: the line of column names, then lines of at most 33 bytes, one for
-// the verdict, eight for plans, and as many for actions and picks as the slices hold.
+// the verdict, 128 for missing facts, eight for plans, and as many for actions and picks as the
+// slices hold.
 pub const MOST_BYTES: usize = 16
-    + 33 * (1 + 8 + (MOST_CONFIGURATIONS + LOCAL_COPIES) + MOST_CONFIGURATIONS);
+    + 33 * (1 + 128 + 8 + (MOST_CONFIGURATIONS + LOCAL_COPIES) + MOST_CONFIGURATIONS);
 
 // The file of the verdict on an accepted task, with zero slices of the program's lengths.
 fn judge(

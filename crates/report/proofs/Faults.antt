@@ -8,6 +8,7 @@ use lib.Seq.{length-take-le}
 use Rattle.semantics.specs.Base.{numbersFrom, gives}
 use Rattle.semantics.specs.Verdict.{notRobust, conflictPicks}
 use Rattle.theory.proofs.Laid.{Laid, laid-append}
+use Rattle.mask.specs.Number.{number}
 use Rattle.fault.specs.Value.{faultOf, failingOf, verdictOf, answerOf}
 use Rattle.fault.specs.declared.Fault.the-variants.{Collision, Deadlock, Missed}
 use Rattle.fault.specs.declared.Failing.{Failing}
@@ -15,9 +16,9 @@ use Rattle.fault.specs.declared.Verdict.{Verdict}
 use Rattle.fault.specs.declared.Verdict.the-variants.{Unsolvable, NotRobust, Robust}
 use Rattle.fault.specs.declared.VerdictAnswer.{VerdictAnswer}
 use Rattle.fault.specs.declared.VerdictAnswer.the-variants.{Refused, Gives}
-use Rattle.report.specs.File.{word, line, conflictLines, faultLine, body}
+use Rattle.report.specs.File.{word, line, missingLines, conflictLines, faultLine, body}
 use Rattle.report.specs.Inner.Put.{mostLine, Room, Inside, Holds, conflictOf}
-use Rattle.report.proofs.Laws.{line-short, line-room}
+use Rattle.report.proofs.Laws.{room-first, room-then, line-short, line-room}
 
 -- ---- a fault's line
 
@@ -65,7 +66,17 @@ module _ (f : Failing) where
       → f .picked + 1 ≤ length picks
   count-fits picks h e = rw (count-collision e) h
 
--- ---- the line, then the conflict
+-- ---- the line, then what is missing, then the conflict
+
+-- after the line there is room for the rest, and first for what is missing
+module _ (f : Failing) (n : ℕ) (plans ends picks before : List ℕ) (at : ℕ) (mid : List ℕ) (next : ℕ)
+    (room : Room before (at + mostLine) (conflictOf (gives (notRobust (failingOf f))) n plans ends picks))
+    (short : next ≤ at + mostLine) (kept : length mid ≡ length before) where
+  room-rest : Room mid next (conflictOf (gives (notRobust (failingOf f))) n plans ends picks)
+  room-rest = record { fits = omega (arith, room .fits) }
+
+  pub room-missing : Room mid next (missingLines (number (f .missing)))
+  room-missing = room-first (missingLines (number (f .missing))) _ room-rest
 
 module _ (f : Failing) (n : ℕ) (plans ends picks : List ℕ)
     (holds : Holds (gives (notRobust (failingOf f))) n plans ends picks) where
@@ -76,16 +87,20 @@ module _ (f : Failing) (n : ℕ) (plans ends picks : List ℕ)
     pub front-long : count ≡ length (take count picks)
     front-long = sym (length-take-le count picks (omega (arith, holds .1)))
 
-    module _ (before : List ℕ) (at : ℕ) (mid : List ℕ) (next : ℕ)
-        (l : Laid (faultLine (faultOf (f .fault)) (f .picked)) before at mid next) where
-      pub room-conflict : Room before (at + mostLine) (conflictOf (gives (notRobust (failingOf f))) n plans ends picks)
-          → next ≤ at + mostLine → length mid ≡ length before
-          → Room mid next (conflictLines n plans ends (take count picks))
-      room-conflict room short kept = rw is (record { fits = omega (arith, room .fits) })
+    module _ (mid : List ℕ) (next : ℕ) (behind : List ℕ) (last : ℕ)
+        (k : Laid (missingLines (number (f .missing))) mid next behind last) where
+      pub room-conflict : (before : List ℕ) (at : ℕ)
+          → Room before (at + mostLine) (conflictOf (gives (notRobust (failingOf f))) n plans ends picks)
+          → next ≤ at + mostLine → length mid ≡ length before → length behind ≡ length mid
+          → Room behind last (conflictLines n plans ends (take count picks))
+      room-conflict before at room short kept same =
+          rw is (room-then (room-rest f n plans ends picks before at mid next room short kept) k same)
 
-      pub failing-put : (after : List ℕ) (r : ℕ) → Laid (conflictLines n plans ends (take count picks)) mid next after r
+      pub failing-put : (before : List ℕ) (at : ℕ)
+          → Laid (faultLine (faultOf (f .fault)) (f .picked)) before at mid next
+          → (after : List ℕ) (r : ℕ) → Laid (conflictLines n plans ends (take count picks)) behind last after r
           → Laid (body (gives (notRobust (failingOf f))) n plans ends picks) before at after r
-      failing-put after r k = laid-append l (rw is at k)
+      failing-put before at l after r c = laid-append l (laid-append k (rw is at c))
 
 -- ---- a verdict, an answer
 

@@ -11,14 +11,16 @@ use lib.ListN.{length, getD, take, drop, set, length-append, drop-of-length-le}
 use lib.Seq.{slice, drop-cons, getD-drop, length-slice, length-take-le}
 use lib.Dec.{ltb}
 use borrow.Author.Tests.{ltb-false, lt-ltb, le-ltb}
-use Rattle.semantics.specs.Base.{numbersFrom, Answer, refused, gives}
+use Rattle.semantics.specs.Base.{numbersFrom, upTo, collect, keep, Answer, refused, gives}
+use Rattle.semantics.specs.Mask.{has, standing}
 use Rattle.semantics.specs.Text.{comma, digitsIn, digits}
 use Rattle.semantics.specs.Run.{beginning, planOf}
 use Rattle.semantics.specs.Verdict.{Verdict, unsolvable, notRobust, robust, Failing, conflictPicks}
 use Rattle.theory.proofs.Laid.{Laid, laid-none, laid-one, laid-append}
-use Rattle.theory.proofs.Lists.{lt-or-ge}
-use Rattle.report.specs.File.{word, lineEnd, line, lines, planLines, plansLines, conflictLines}
-use Rattle.report.specs.Inner.Put.{mostLine, Room, Inside, Holds, conflictOf}
+use Rattle.theory.proofs.Lists.{lt-or-ge, upTo-length}
+use Rattle.report.specs.File.{word, lineEnd, line, lines, planLines, plansLines, missingLines}
+use Rattle.report.specs.File.{conflictLines}
+use Rattle.report.specs.Inner.Put.{mostLine, mostFacts, Room, Inside, Holds, missingLine, conflictOf}
 
 -- ---- one after another
 
@@ -145,6 +147,45 @@ module _ {f : ℕ → List ℕ} {xs before : List ℕ} {at : ℕ} where
         (subst (λ (l : List ℕ). Laid (spread f l) out next out next) (sym (drop-of-length-le xs h))
         (laid-none out next (omega (arith, s .room))))
 
+-- a line for each entry that passes the test
+spread-kept : (p : ℕ → Bool) (f : ℕ → List ℕ) (xs : List ℕ)
+    → spread (λ x. cond (p x) (f x) []) xs ≡ spread f (keep p xs)
+unfolding flatten keep collect
+spread-kept p f [] = refl
+spread-kept p f (x ∷ xs) = at (p x) (spread-kept p f xs)
+  where
+    at : (b : Bool) → spread (λ x. cond (p x) (f x) []) xs ≡ spread f (collect p (λ x. x) xs)
+        → cond b (f x) [] ++ spread (λ x. cond (p x) (f x) []) xs
+        ≡ spread f (cond b (x ∷ collect p (λ x. x) xs) (collect p (λ x. x) xs))
+    at true h = ap (λ (l : List ℕ). f x ++ l) h
+    at false h = h
+
+-- the lines of what is missing, fact by fact
+missing-lines : (m : ℕ) → spread (missingLine m) (upTo mostFacts) ≡ missingLines m
+unfolding missingLines lines standing
+missing-lines m = spread-kept (λ f. has f m) (line (word "missing")) (upTo mostFacts)
+
+module _ (m : ℕ) {before : List ℕ} {at : ℕ} where
+  pub missing-begin : Room before at (missingLines m) → Stage (missingLine m) (upTo mostFacts) before at before at 0
+  missing-begin h = stage-begin (subst (λ (l : List ℕ). Room before at l) (sym (missing-lines m)) h)
+
+  pub missing-end : {out : List ℕ} {next i : ℕ} → Stage (missingLine m) (upTo mostFacts) before at out next i
+      → mostFacts ≤ i → Laid (missingLines m) before at out next
+  missing-end {out} {next} s h =
+      subst (λ (l : List ℕ). Laid l before at out next) (missing-lines m)
+      (stage-end s (omega (arith, upTo-length mostFacts)))
+
+module _ (m f : ℕ) (b : Bool) (e : b ≡ has f m) (out : List ℕ) (at : ℕ) (room : Room out at (missingLine m f)) where
+  pub fact-room : b ≡ true → Room out at (line (word "missing") f)
+  fact-room h = let q = sym e ∙ h in rw q at room
+
+  pub fact-put : b ≡ true → (after : List ℕ) (r : ℕ) → Laid (line (word "missing") f) out at after r
+      → Laid (missingLine m f) out at after r
+  fact-put h after r l = rw (← e, h) l
+
+  pub fact-none : b ≡ false → Laid (missingLine m f) out at out at
+  fact-none h = rw (← e, h) (laid-none out at (omega (arith, room .fits)))
+
 -- the bytes of a list, one by one
 pub spread-bytes : (xs : List ℕ) → spread (λ x. x ∷ []) xs ≡ xs
 unfolding flatten
@@ -177,6 +218,37 @@ unfolding lines flatten
 lines-short w [] k h = omega arith
 lines-short w (x ∷ xs) k h =
     omega (arith, length-append (line w x) (lines w xs), line-short w x k (h 0), lines-short w xs k (λ i. h (suc i)))
+
+small-numbers : (k c : ℕ) → k + c ≤ 2 ^ 64 → Small (numbersFrom k c)
+unfolding numbersFrom
+small-numbers k zero h i = omega arith
+small-numbers k (suc c) h zero = omega arith
+small-numbers k (suc c) h (suc i) = small-numbers (suc k) c (omega arith) i
+
+-- so are the lines of what is missing
+missing-short : (m : ℕ) (xs : List ℕ) → Small xs → length (spread (missingLine m) xs) ≤ mostLine * length xs
+unfolding flatten word numbersFrom
+missing-short m [] h = omega arith
+missing-short m (x ∷ xs) h =
+    omega (
+      arith,
+      length-append (missingLine m x) (spread (missingLine m) xs),
+      one (has x m),
+      missing-short m xs (λ i. h (suc i)),
+    )
+  where
+    one : (b : Bool) → length (cond b (line (word "missing") x) []) ≤ mostLine
+    one true = line-short (word "missing") x (omega arith) (h 0)
+    one false = omega arith
+
+missing-most : (m : ℕ) → length (missingLines m) ≤ mostLine * mostFacts
+missing-most m =
+    omega (
+      arith,
+      ap length (missing-lines m),
+      missing-short m (upTo mostFacts) (small-numbers 0 mostFacts (omega arith)),
+      upTo-length mostFacts,
+    )
 
 module _ (n : ℕ) (plans ends : List ℕ) (p : Inside n plans ends) (few : n ≤ 2 ^ 64) (h : Small plans) where
   plan-short : (j : ℕ) → j < n
@@ -228,7 +300,7 @@ module _ (n : ℕ) (plans ends : List ℕ) (p : Inside n plans ends) (few : n �
 
 pub conflict-most : (answer : Answer (Verdict Failing)) (n : ℕ) (plans ends picks : List ℕ)
     → Holds answer n plans ends picks → n ≤ 2 ^ 64 → Small plans → Small picks
-    → length (conflictOf answer n plans ends picks) ≤ mostLine * (n + length plans + length picks)
+    → length (conflictOf answer n plans ends picks) ≤ mostLine * (mostFacts + n + length plans + length picks)
 conflict-most (refused k) n plans ends picks h f s t = omega arith
 conflict-most (gives (unsolvable i)) n plans ends picks h f s t = omega arith
 conflict-most (gives (robust c)) n plans ends picks h f s t = omega arith
@@ -238,5 +310,7 @@ conflict-most (gives (notRobust told)) n plans ends picks h f s t =
       arith,
       h .1,
       length-take-le k picks (h .1),
+      length-append (missingLines (told .missing)) (conflictLines n plans ends (take k picks)),
+      missing-most (told .missing),
       conflict-short n plans ends (h .0) f s (take k picks) (small-take k picks t),
     )

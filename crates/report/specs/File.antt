@@ -5,6 +5,7 @@ use Prim.Native.Char.{code}
 use Prim.Native.String.{String, len, charAt}
 use lib.ListN.{take}
 use Rattle.semantics.specs.Base.{upTo, Answer, refused, gives}
+use Rattle.semantics.specs.Mask.{standing}
 use Rattle.semantics.specs.Text.{comma, cr, lf, digits}
 use Rattle.semantics.specs.Run.{Fault, planOf}
 use Rattle.semantics.specs.Verdict.{Verdict, unsolvable, notRobust, robust, Failing, conflictPicks}
@@ -46,13 +47,19 @@ faultLine Fault.collision k = line (word "collision") k
 faultLine Fault.deadlock k = line (word "deadlock") k
 faultLine (Fault.missed i) k = line (word "missed") i
 
+-- a line for each fact of the mask, rising (F-6); a task has at most 128
+unfoldable pub missingLines : ℕ → List ℕ
+missingLines m = lines (word "missing") (standing 128 m)
+
 -- the verdict's answer on a task of n members, and the slices that hold its conflict
 abbrev pub body : Answer (Verdict Failing) → ℕ → List ℕ → List ℕ → List ℕ → List ℕ
 body (refused k) n plans ends picks = line (word "refused") k
 body (gives (unsolvable i)) n plans ends picks = line (word "unsolvable") i
 body (gives (robust c)) n plans ends picks = line (word "robust") c
 body (gives (notRobust f)) n plans ends picks =
-    faultLine (f .fault) (f .picked) ++ conflictLines n plans ends (take (conflictPicks (f .fault) (f .picked)) picks)
+    faultLine (f .fault) (f .picked)
+    ++ (missingLines (f .missing)
+    ++ conflictLines n plans ends (take (conflictPicks (f .fault) (f .picked)) picks))
 
 abbrev pub file : Answer (Verdict Failing) → ℕ → List ℕ → List ℕ → List ℕ → List ℕ
 file answer n plans ends picks = header ++ body answer n plans ends picks

@@ -10,14 +10,20 @@ ghost use Rattle.theory.proofs.Laid.{Laid};
 ghost use Rattle.semantics.specs.Text.{digits};
 ghost use Rattle.semantics.specs.Base.{gives};
 ghost use Rattle.semantics.specs.Verdict.{notRobust, conflictPicks};
+ghost use Rattle.mask.specs.Number.{number};
 ghost use Rattle.fault.specs.Value.{faultOf, failingOf, verdictOf, answerOf};
 ghost use Rattle.report.specs.File.{word, header, line, lines, planLines, plansLines};
-ghost use Rattle.report.specs.File.{conflictLines, faultLine, body, file};
-ghost use Rattle.report.specs.Inner.Put.{mostLine, mostFile, Room, Inside, Holds, conflictOf};
+ghost use Rattle.report.specs.File.{conflictLines, faultLine, missingLines, body, file};
+ghost use Rattle.report.specs.Inner.Put.{mostLine, mostFile, mostFacts, Room, Inside};
+ghost use Rattle.report.specs.Inner.Put.{Holds, missingLine, conflictOf};
 use fault::Failing;
 use fault::Fault;
 use fault::Verdict;
 use fault::VerdictAnswer;
+use mask::Mask;
+
+// The most facts of a mask.
+const MOST_FACTS: u64 = 128;
 
 fn put_byte(out: &mut [u8], at: usize, byte: u8) -> usize
     requires { ⌜ Room (now out) at (byte ∷ []) ⌝ }
@@ -216,6 +222,32 @@ fn put_fault(out: &mut [u8], at: usize, f: Failing) -> usize
     }
 }
 
+// The line of fact f, if it stands in the mask.
+fn put_fact(out: &mut [u8], at: usize, m: Mask, f: u64) -> usize
+    requires { ⌜ f < mostFacts ⌝ }
+    requires { ⌜ Room (now out) at (missingLine (number m) f) ⌝ }
+    ensures { λ r. ⌜ Laid (missingLine (number m) f) (now (out .entry)) at (now (out .exit)) r ⌝ }
+{
+    if mask::has(m, f) {
+        return put_line(out, at, b"missing", f);
+    }
+    at
+}
+
+// A line for each fact of the mask.
+fn put_missing(out: &mut [u8], at: usize, m: Mask) -> usize
+    requires { ⌜ Room (now out) at (missingLines (number m)) ⌝ }
+    ensures { λ r. ⌜ Laid (missingLines (number m)) (now (out .entry)) at (now (out .exit)) r ⌝ }
+{
+    let mut next = at;
+    let mut f: u64 = 0; // the lowest first
+    while f < MOST_FACTS {
+        next = put_fact(out, next, m, f);
+        f += 1;
+    }
+    next
+}
+
 // The picks of its conflict, which the slice holds.
 fn pick_count(picks: &[u8], f: Failing) -> usize
     requires { ⌜ conflictPicks (faultOf (f .fault)) (f .picked) ≤ length (now picks) ⌝ }
@@ -229,7 +261,7 @@ fn pick_count(picks: &[u8], f: Failing) -> usize
     }
 }
 
-// A fault's line, then its conflict.
+// A fault's line, then the lines of what is missing, then its conflict.
 fn put_failing(
     out: &mut [u8],
     at: usize,
@@ -247,7 +279,8 @@ fn put_failing(
         (now (picks .entry)))
         (now (out .entry)) at (now (out .exit)) r ⌝ }
 {
-    let next = put_fault(out, at, f);
+    let missing = put_fault(out, at, f);
+    let next = put_missing(out, missing, f.missing);
     let count = pick_count(picks, f);
     put_conflict(out, next, n, plans, ends, &picks[..count])
 }
@@ -321,7 +354,8 @@ pub fn put_file(
     picks: &[u8],
 ) -> usize
     requires { ⌜ Holds (answerOf answer) n (now plans) (now ends) (now picks) ⌝ }
-    requires { ⌜ mostFile (1 + n + length (now plans) + length (now picks)) ≤ length (now out) ⌝ }
+    requires { ⌜ mostFile (1 + mostFacts + n + length (now plans) + length (now picks))
+        ≤ length (now out) ⌝ }
     ensures { λ r. ⌜ Laid
         (file (answerOf answer) n (now (plans .entry)) (now (ends .entry)) (now (picks .entry)))
         (now (out .entry)) 0 (now (out .exit)) r ⌝ }

@@ -24,8 +24,7 @@ pub fn start(t: &[u64]) -> Started
 {
     let c = task::check(t);
     if c != 0 {
-        let empty = [0; mask::WORDS];
-        let g = Shared(mask::load(&empty, 0));
+        let g = Shared(mask::none());
         let none = Run {
             shared: g,
             places: [0; 8],

@@ -2,7 +2,7 @@
 use mathlib.Core.Path.{_≡_, refl, sym, _∙_}
 use mathlib.Core.Bool.{Bool, true, false, not}
 use mathlib.Core.List.{List, [], _∷_}
-use Prim.Native.Nat.{ℕ, _+_, _≤_, _<_}
+use Prim.Native.Nat.{ℕ, _+_, _^_, _≤_, _<_}
 use native.Mathlib.Omega.{arith}
 use native.Mathlib.Numerals.{add-one}
 use lib.ListN.{length, getD, drop, drop-of-length-le}
@@ -15,11 +15,12 @@ use Rattle.semantics.specs.Task.{members, goal}
 use Rattle.semantics.specs.Mask.{within}
 use Rattle.semantics.specs.System.{system}
 use Rattle.semantics.specs.Run as Paper
-use Rattle.semantics.specs.Run.{rest, given, runAfter, counted, tally, start, missedIn, pick, pickable, stepsLeft}
+use Rattle.semantics.specs.Run.{rest, given, runAfter, counted, tally, lackedBy, lacked, start, missedIn, pick, pickable, stepsLeft}
 use Rattle.semantics.specs.Run.{outcome, replayOn, replay, planOf}
 use Rattle.theory.proofs.Loops.{Rest, any-holds, any-onward, any-ends, number-decides, number-onward, number-ends}
 use Rattle.theory.proofs.Plans.{rest-length}
-use Rattle.mask.specs.Number.{sharedNumber}
+use Rattle.mask.specs.Number.{number, sharedNumber}
+use Rattle.mask.specs.declared.Mask.{Mask}
 use Rattle.fault.specs.Value.{faultOf}
 use Rattle.fault.specs.declared.Fault.{Fault}
 use Rattle.run_pick.specs.Inner.Meaning.{plansIn, pickIn}
@@ -130,52 +131,66 @@ module _ (t plans ends : List ℕ) (run : Run) where
 pub count-go : (k : ℕ) (x : Reply) → x ≡ Go → k + 1 ≡ counted k (replyOf x)
 count-go k x e = rw e
 
-pub count-collision : (k : ℕ) (x : Reply) → x ≡ Collision → k ≡ counted k (replyOf x)
-count-collision k x e = rw e
+pub count-collision : (k : ℕ) (x : Reply) (m : Mask) → x ≡ Collision m → k ≡ counted k (replyOf x)
+count-collision k x m e = rw e
+
+pub lacked-go : (x : Reply) → x ≡ Go → (m : ℕ) → m ≡ 0 → m ≡ lackedBy (replyOf x)
+lacked-go x e m z = rw e z
+
+pub lacked-collision : (x : Reply) (m : Mask) → x ≡ Collision m → number m ≡ lackedBy (replyOf x)
+lacked-collision x m e = rw e
 
 counted-most : (k : ℕ) (x : Reply) → counted k (replyOf x) ≤ k + 1
 counted-most k Go = omega arith
-counted-most k Collision = omega arith
+counted-most k (Collision m) = omega arith
 
--- what all picks come to from the start is what those from i on come to from this run, k picks being done
-pub record Replaying (t plans ends picks : List ℕ) (run : Run) (k i : ℕ) : Type 0 where
+-- what all picks come to from the start is what those from i on come to from this run, k picks being done, of which the
+-- last lacked n
+pub record Replaying (t plans ends picks : List ℕ) (run : Run) (k n i : ℕ) : Type 0 where
   pub most : i ≤ length picks
   pub few : k ≤ i
-  pub rest : replayIn t plans ends picks ≡ replayOnIn t plans ends (gives (runOf run)) k (drop i picks)
+  pub rest : replayIn t plans ends picks ≡ replayOnIn t plans ends (gives (runOf run)) k n (drop i picks)
 
 module _ (t plans ends picks : List ℕ) where
-  pub replay-starts : (run : Run) → runOf run ≡ start (system t) → Replaying t plans ends picks run 0 0
+  pub replay-starts : (run : Run) → runOf run ≡ start (system t) → (n : ℕ) → n ≡ 0
+      → Replaying t plans ends picks run 0 n 0
   unfolding replay
-  replay-starts run e = record { most = omega arith; few = omega arith; rest = rw e }
+  replay-starts run e n z = record { most = omega arith; few = omega arith; rest = rw (e, z) }
 
-  module _ (run : Run) (k i : ℕ) (r : Replaying t plans ends picks run k i) where
+  module _ (run : Run) (k n i : ℕ) (r : Replaying t plans ends picks run k n i) where
     module _ (h : i < length picks) where
+      -- so many picks can be counted
+      pub count-fits : length picks < 2 ^ 64 → k + 1 < 2 ^ 64
+      count-fits l = omega (arith, r .few)
+
       turn : replayIn t plans ends picks
           ≡ (let a =
           pickIn t plans ends (runOf run) (getD picks i 0) in
-          replayOnIn t plans ends (runAfter a) (tally k a) (drop (i + 1) picks))
+          replayOnIn t plans ends (runAfter a) (tally k a) (lacked a) (drop (i + 1) picks))
       unfolding replayOn
       turn = r .rest ∙ rw (drop-cons picks i 0 h, add-one i)
 
       module _ (p : Picked) (m : PickMeans (pickIn t plans ends (runOf run) (getD picks i 0)) run p) where
         pub replay-gives : (x : Reply) → p .answer ≡ Gives x → (d : ℕ) → d ≡ counted k (replyOf x)
-            → Replaying t plans ends picks (p .run) d (i + 1)
-        replay-gives x e d q =
+            → (l : ℕ) → l ≡ lackedBy (replyOf x)
+            → Replaying t plans ends picks (p .run) d l (i + 1)
+        replay-gives x e d q l z =
             record {
               most = omega arith;
               few = omega (arith, counted-most k x, r .few);
-              rest = turn ∙ rw (means-gives m x e, q);
+              rest = turn ∙ rw (means-gives m x e, q, z);
             }
 
         pub replay-refused : (x : ℕ) → p .answer ≡ Refused x → refused x ≡ replayIn t plans ends picks
         unfolding replayOn
         replay-refused x e = sym (turn ∙ rw (means-refused m x e) (at (drop (i + 1) picks)))
           where
-            at : (js : List ℕ) → replayOnIn t plans ends (refused x) k js ≡ refused x
+            at : (js : List ℕ) → replayOnIn t plans ends (refused x) k 0 js ≡ refused x
             at [] = refl
             at (j ∷ js) = refl
 
     pub replay-ends : length picks ≤ i → (o : Paper.Outcome) → o ≡ outcomeIn t plans ends (runOf run)
-        → gives (record { outcome = o; shared = sharedNumber (run .shared); picked = k }) ≡ replayIn t plans ends picks
+        → gives (record { outcome = o; shared = sharedNumber (run .shared); picked = k; missing = n })
+        ≡ replayIn t plans ends picks
     unfolding replayOn
     replay-ends h o e = sym (r .rest ∙ rw (drop-of-length-le picks h, ← e))

@@ -3,7 +3,7 @@ use Prim.Native.Nat.{ℕ}
 use Rattle.semantics.specs.Base as Base
 use Rattle.semantics.specs.Base.{refused, gives}
 use Rattle.semantics.specs.Run as Paper
-use Rattle.mask.specs.Number.{sharedNumber}
+use Rattle.mask.specs.Number.{number, sharedNumber}
 use Rattle.fault.specs.Value.{faultOf}
 use Rattle.run_outcome.specs.declared.Outcome.{Outcome}
 use Rattle.run_outcome.specs.declared.Outcome.the-variants as outcome
@@ -17,7 +17,13 @@ outcomeOf (outcome.Failure f) = Paper.failure (faultOf f)
 outcomeOf outcome.Open = Paper.still-open
 
 abbrev pub replayOf : Replay → Paper.Replay ℕ
-replayOf r = record { outcome = outcomeOf (r .outcome); shared = sharedNumber (r .shared); picked = r .picked }
+replayOf r =
+    record {
+      outcome = outcomeOf (r .outcome);
+      shared = sharedNumber (r .shared);
+      picked = r .picked;
+      missing = number (r .missing);
+    }
 
 abbrev pub replayedOf : ReplayAnswer → Base.Answer (Paper.Replay ℕ)
 replayedOf (replayed.Refused k) = refused k

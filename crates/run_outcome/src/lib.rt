@@ -5,14 +5,15 @@ ghost use Prim.Native.Nat.{_+_, _^_, _<_};
 ghost use Rattle.semantics.specs.Base.{upTo};
 ghost use Rattle.semantics.specs.Task.{check, members};
 ghost use Rattle.semantics.specs.System.{system};
-ghost use Rattle.semantics.specs.Run.{given, counted, missedIn, plansRefusal};
-ghost use Rattle.mask.specs.Number.{sharedNumber};
+ghost use Rattle.semantics.specs.Run.{given, counted, lackedBy, missedIn, plansRefusal};
+ghost use Rattle.mask.specs.Number.{number, sharedNumber};
 ghost use Rattle.run_pick.specs.Inner.Meaning.{pickIn};
 ghost use Rattle.run_pick.specs.Value.{runOf, replyOf};
 ghost use Rattle.run_outcome.specs.Value.{outcomeOf, replayedOf};
 ghost use Rattle.run_outcome.specs.Inner.Meaning.{pickableIn, stepsLeftIn, outcomeIn};
 ghost use Rattle.run_outcome.specs.Inner.Meaning.{replayIn};
 use fault::Fault;
+use mask::Mask;
 use mask::Shared;
 use run_pick::Answer;
 use run_pick::Closed;
@@ -26,12 +27,13 @@ pub enum Outcome {
     Open,
 }
 
-// What a list of picks comes to: the outcome, the shared copy, and the picks done, a collision pick
-// not counted.
+// What a list of picks comes to: the outcome, the shared copy, the picks done, a collision pick not
+// counted, and the preconditions that this one lacks.
 pub struct Replay {
     pub outcome: Outcome,
     pub shared: Shared,
     pub picked: usize,
+    pub missing: Mask,
 }
 
 pub enum ReplayAnswer {
@@ -137,7 +139,17 @@ fn count(done: usize, r: Reply) -> usize
 {
     match r {
         Reply::Go => done + 1,
-        Reply::Collision => done,
+        Reply::Collision(_) => done,
+    }
+}
+
+// The preconditions that a pick lacks, none unless it collides.
+fn lacked(r: Reply) -> Mask
+    ensures { λ m. ⌜ number m ≡ lackedBy (replyOf r) ⌝ }
+{
+    match r {
+        Reply::Go => mask::none(),
+        Reply::Collision(missing) => missing,
     }
 }
 
@@ -151,6 +163,7 @@ pub fn replay_all(t: &[u64], plans: &[u16], ends: &[u64], picks: &[u8]) -> Repla
 {
     let mut run = run_pick::start(t);
     let mut done: usize = 0;
+    let mut missing = mask::none();
     let mut i = 0;
     while i < picks.len() {
         let j = picks[i] as usize;
@@ -163,6 +176,7 @@ pub fn replay_all(t: &[u64], plans: &[u16], ends: &[u64], picks: &[u8]) -> Repla
             }
             Answer::Gives(r) => {
                 done = count(done, r);
+                missing = lacked(r);
             }
         }
         run = p.run;
@@ -173,5 +187,6 @@ pub fn replay_all(t: &[u64], plans: &[u16], ends: &[u64], picks: &[u8]) -> Repla
         outcome: o,
         shared: s,
         picked: done,
+        missing: missing,
     })
 }

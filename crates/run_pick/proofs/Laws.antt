@@ -23,6 +23,7 @@ use Rattle.theory.proofs.Plans.{rest-is}
 use Rattle.theory.proofs.Refusals.{refused-gives, gives-inj}
 use Rattle.theory.proofs.Picks.{advanced, next-nobody, next-closed, next-over, next-decides, pick-next}
 use Rattle.mask.specs.Number.{sharedNumber}
+use Rattle.mask.specs.declared.Mask.{Mask}
 use Rattle.mask.specs.declared.Shared.{Shared}
 use Rattle.fault.specs.declared.Fault.the-variants.{Collision as Crash}
 use Rattle.step.specs.Value.{decisionOf, steppedOf}
@@ -80,14 +81,14 @@ module _ (run : Run) (j : ℕ) (d : Decision) where
   pub way-waits : d ≡ decision.Wait → (p : Picked) → PickMeans (refused 13) run p → Advances p
   way-waits q p m = rw q m
 
-  pub way-collides : d ≡ decision.Collision
+  pub way-collides : (m : Mask) → d ≡ decision.Collision m
       → Advances
       (record {
-        answer = Gives Collision;
+        answer = Gives (Collision m);
         run =
             record { shared = run .shared; places = run .places; closed = By Crash };
       })
-  way-collides q = rw q (record { answer = refl; after = refl })
+  way-collides m q = rw q (record { answer = refl; after = refl })
 
   pub way-goes : (g : Shared) → d ≡ decision.Go g → (to : ℕ) → to ≡ getD (run .places) j 0 + 1 → j < 8
       → length (run .places) ≡ 8

@@ -6,7 +6,7 @@ use Rattle.semantics.specs.Base as Base
 use Rattle.semantics.specs.Base.{refused, gives}
 use Rattle.semantics.specs.Run as Paper
 use Rattle.semantics.specs.Run.{passOver}
-use Rattle.mask.specs.Number.{sharedNumber}
+use Rattle.mask.specs.Number.{number, sharedNumber}
 use Rattle.fault.specs.Value.{faultOf}
 use Rattle.run_pick.specs.declared.Closed.{Closed}
 use Rattle.run_pick.specs.declared.Closed.the-variants as closed
@@ -29,7 +29,7 @@ runOf r =
 
 abbrev pub replyOf : Reply → Paper.Reply
 replyOf reply.Go = Paper.goes
-replyOf reply.Collision = Paper.collides
+replyOf (reply.Collision m) = Paper.collides (number m)
 
 abbrev pub answerOf : Answer → Base.Answer Paper.Reply
 answerOf (answer.Refused k) = refused k

@@ -11,6 +11,7 @@ ghost use Rattle.step.specs.Value.{decisionOf, steppedOf};
 ghost use Rattle.run_pick.specs.Value.{closedOf, runOf, PickMeans};
 ghost use Rattle.run_pick.specs.Inner.Meaning.{nextIn, Ready, pickIn};
 use fault::Fault;
+use mask::Mask;
 use mask::Shared;
 use step::Decision;
 use step::Stepped;
@@ -29,10 +30,10 @@ pub struct Run {
     pub closed: Closed,
 }
 
-// What a pick that is not refused replies.
+// What a pick that is not refused replies; a collision with the preconditions that are missing.
 pub enum Reply {
     Go,
-    Collision,
+    Collision(Mask),
 }
 
 // What a pick answers.
@@ -108,8 +109,8 @@ fn advance(run: Run, j: usize, to: u64, d: Decision) -> Picked
             }
         }
         Decision::Wait => refuse(run, 13),
-        Decision::Collision => Picked {
-            answer: Answer::Gives(Reply::Collision),
+        Decision::Collision(missing) => Picked {
+            answer: Answer::Gives(Reply::Collision(missing)),
             run: closed,
         },
     }

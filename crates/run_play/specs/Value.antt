@@ -19,7 +19,7 @@ use Rattle.run_play.specs.declared.Played.{Played}
 abbrev pub numberIn : Base.Answer Paper.Reply → ℕ
 numberIn (refused k) = k
 numberIn (gives Paper.goes) = 0
-numberIn (gives Paper.collides) = 1
+numberIn (gives (Paper.collides m)) = 1
 
 -- the first list over the front of the second, as much of it as the second holds
 unfoldable pub over : List ℕ → List ℕ → List ℕ

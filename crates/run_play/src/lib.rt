@@ -26,7 +26,7 @@ fn number(a: Answer) -> u64
         Answer::Refused(k) => k,
         Answer::Gives(r) => match r {
             Reply::Go => 0,
-            Reply::Collision => 1,
+            Reply::Collision(_) => 1,
         },
     }
 }

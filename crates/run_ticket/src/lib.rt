@@ -63,7 +63,7 @@ fn next_change(change: u32, r: Reply) -> u32
 {
     match r {
         Reply::Go => change + 1,
-        Reply::Collision => change + 1,
+        Reply::Collision(_) => change + 1,
     }
 }
 

@@ -14,16 +14,16 @@ use Rattle.semantics.specs.Run.{replay, endsFit, plansRefusal, jointRepl
 use Rattle.semantics.specs.Dispatch.{nextStep, pickNumbered, askOn, commitOn}
 use Rattle.semantics.specs.Verdict.{sameRow, moved, ready, moves, configurations, collides, stuck, blocked}
 use Rattle.semantics.specs.Verdict.{deadlocked, faults, leadsBy, actionTo, sourceOf, walkIn, colliding, waiting}
-use Rattle.semantics.specs.Verdict.{goesOn, lastPick, restAt, conflictBy, firstConflict, solvableElse, verdictIn}
-use Rattle.semantics.specs.Verdict.{verdict}
-use Rattle.semantics.proofs.Table.{table, further, searches, wider, asks, commits, AllHold}
+use Rattle.semantics.specs.Verdict.{goesOn, lastPick, missingAt, restAt, conflictBy, firstConflict, solvableElse}
+use Rattle.semantics.specs.Verdict.{verdictIn, verdict}
+use Rattle.semantics.proofs.Table.{table, further, searches, wider, asks, commits, lacks, AllHold}
 
 pub laws-hold : AllHold table
 unfolding anyOf allOf collect flatten keep numbersFrom firstRefusal within after below headFits goalRow actionRow check
     routine step addNew addAll grow soloFrom soloNext copies leadingTo liveOf start rest missedIn pickStep pick pickable
     stepsLeft outcome replayOn replay endsFit plansRefusal jointReplay sameRow moved ready moves configurations collides
     stuck blocked deadlocked faults firstOf near nearing stepsIn distance completion leadsBy actionTo sourceOf walkIn
-    colliding waiting goesOn lastPick restAt conflictBy firstConflict solvableElse verdictIn verdict
+    colliding waiting goesOn lastPick missingAt restAt conflictBy firstConflict solvableElse verdictIn verdict
 laws-hold =
     let later : AllHold (drop 12 table) = (refl, (refl, (refl, (refl, (refl, (refl, (refl, tt))))))) in
     (refl, (refl, (refl, (refl, (refl, (refl, (refl, (refl, (refl, (refl, (refl, (refl, later))))))))))))
@@ -33,7 +33,7 @@ unfolding anyOf allOf collect keep numbersFrom firstRefusal within after below h
     step addNew addAll grow soloFrom soloNext copies leadingTo liveOf start rest missedIn pickStep pick pickable
     stepsLeft outcome replayOn replay endsFit plansRefusal jointReplay sameRow moved ready moves configurations collides
     stuck blocked deadlocked faults firstOf near nearing stepsIn distance completion leadsBy actionTo sourceOf walkIn
-    colliding waiting goesOn lastPick restAt conflictBy firstConflict solvableElse verdictIn verdict
+    colliding waiting goesOn lastPick missingAt restAt conflictBy firstConflict solvableElse verdictIn verdict
 further-hold =
     let last : AllHold (drop 24 further) = (refl, (refl, tt)) in
     let later : AllHold (drop 12 further) =
@@ -50,7 +50,7 @@ unfolding anyOf allOf collect flatten keep numbersFrom firstRefusal within after
     routine step addNew addAll grow soloFrom soloNext copies leadingTo liveOf marksOf ones soloSearch start rest
     missedIn pickStep pick pickable stepsLeft outcome replayOn replay endsFit plansRefusal jointReplay sameRow moved ready moves
     configurations collides stuck blocked deadlocked faults firstOf near nearing stepsIn distance completion leadsBy
-    actionTo sourceOf walkIn colliding waiting goesOn lastPick restAt conflictBy firstConflict solvableElse verdictIn
+    actionTo sourceOf walkIn colliding waiting goesOn lastPick missingAt restAt conflictBy firstConflict solvableElse verdictIn
     verdict
 wider-hold =
     let later : AllHold (drop 12 wider) = (refl, (refl, (refl, (refl, (refl, (refl, (refl, (refl, (refl, tt))))))))) in
@@ -67,3 +67,11 @@ unfolding anyOf allOf numbersFrom firstRefusal within after below headFits goalR
 commits-hold =
     let later : AllHold (drop 12 commits) = (refl, (refl, tt)) in
     (refl, (refl, (refl, (refl, (refl, (refl, (refl, (refl, (refl, (refl, (refl, (refl, later))))))))))))
+
+pub lacks-hold : AllHold lacks
+unfolding anyOf allOf numbersFrom firstRefusal within after below headFits goalRow actionRow check routine step soloFrom
+    start rest missedIn pickStep pick pickable stepsLeft outcome replayOn replay endsFit plansRefusal jointReplay pickOn
+    pickNumbered
+lacks-hold =
+    let last : AllHold (drop 12 lacks) = (refl, tt) in
+    (refl, (refl, (refl, (refl, (refl, (refl, (refl, (refl, (refl, (refl, (refl, (refl, last))))))))))))

@@ -170,13 +170,13 @@ abbrev pub AllHold : List Claim → Type 0
 AllHold [] = Unit {0}
 AllHold (c ∷ cs) = Holds c × AllHold cs
 
-abbrev pub ends : Outcome → ℕ → ℕ → Answer (Replay ℕ)
-ends o g k = gives (record { outcome = o; shared = g; picked = k })
+abbrev pub ends : Outcome → ℕ → ℕ → ℕ → Answer (Replay ℕ)
+ends o g k m = gives (record { outcome = o; shared = g; picked = k; missing = m })
 
 -- not robust, with this conflict
-abbrev pub conflict : Fault → ℕ → List (List ℕ) → List ℕ → Answer (Verdict Conflict)
-conflict f k plans picks =
-    gives (notRobust (record { told = record { fault = f; picked = k }; plans = plans; picks = picks }))
+abbrev pub conflict : Fault → ℕ → ℕ → List (List ℕ) → List ℕ → Answer (Verdict Conflict)
+conflict f k m plans picks =
+    gives (notRobust (record { told = record { fault = f; picked = k; missing = m }; plans = plans; picks = picks }))
 
 -- the rows that are found, so many of them live, I or not
 abbrev pub finds : ℕ → Bool → ℕ → List ℕ → List ℕ → SoloSearch
@@ -190,16 +190,16 @@ finds count live marked table marks =
 abbrev pub table : List Claim
 table =
     verdictOf l1 plenty plenty (gives (robust 12))
-    ∷ verdictOf l2 plenty plenty (conflict collision 1 ((0 ∷ 1 ∷ []) ∷ (2 ∷ 3 ∷ []) ∷ []) (0 ∷ 1 ∷ []))
-    ∷ replayOf l2 (0 ∷ 1 ∷ 2 ∷ 3 ∷ []) (2 ∷ 4 ∷ []) (0 ∷ 1 ∷ []) (ends (failure collision) 2 1)
-    ∷ verdictOf l3 plenty plenty (conflict deadlock 3 ((0 ∷ 1 ∷ 0 ∷ []) ∷ (2 ∷ 3 ∷ []) ∷ []) (0 ∷ 0 ∷ 0 ∷ []))
-    ∷ replayOf l3 (0 ∷ 1 ∷ 0 ∷ 2 ∷ 3 ∷ []) (3 ∷ 5 ∷ []) (0 ∷ 0 ∷ 0 ∷ []) (ends (failure deadlock) 6 3)
+    ∷ verdictOf l2 plenty plenty (conflict collision 1 1 ((0 ∷ 1 ∷ []) ∷ (2 ∷ 3 ∷ []) ∷ []) (0 ∷ 1 ∷ []))
+    ∷ replayOf l2 (0 ∷ 1 ∷ 2 ∷ 3 ∷ []) (2 ∷ 4 ∷ []) (0 ∷ 1 ∷ []) (ends (failure collision) 2 1 1)
+    ∷ verdictOf l3 plenty plenty (conflict deadlock 3 0 ((0 ∷ 1 ∷ 0 ∷ []) ∷ (2 ∷ 3 ∷ []) ∷ []) (0 ∷ 0 ∷ 0 ∷ []))
+    ∷ replayOf l3 (0 ∷ 1 ∷ 0 ∷ 2 ∷ 3 ∷ []) (3 ∷ 5 ∷ []) (0 ∷ 0 ∷ 0 ∷ []) (ends (failure deadlock) 6 3 0)
     ∷ verdictOf l4 plenty plenty (gives (unsolvable 1))
     ∷ verdictOf l5 plenty plenty (gives (robust 1))
     ∷ verdictOf l6 plenty plenty (gives (unsolvable 0))
-    ∷ verdictOf l7 plenty plenty (conflict (missed 0) 2 ((0 ∷ []) ∷ (1 ∷ []) ∷ []) (0 ∷ 1 ∷ []))
-    ∷ replayOf l7 (0 ∷ 1 ∷ []) (1 ∷ 2 ∷ []) (0 ∷ 1 ∷ []) (ends (failure (missed 0)) 2 2)
-    ∷ replayOf l7 (0 ∷ 1 ∷ []) (1 ∷ 2 ∷ []) (1 ∷ 0 ∷ []) (ends success 3 2)
+    ∷ verdictOf l7 plenty plenty (conflict (missed 0) 2 0 ((0 ∷ []) ∷ (1 ∷ []) ∷ []) (0 ∷ 1 ∷ []))
+    ∷ replayOf l7 (0 ∷ 1 ∷ []) (1 ∷ 2 ∷ []) (0 ∷ 1 ∷ []) (ends (failure (missed 0)) 2 2 0)
+    ∷ replayOf l7 (0 ∷ 1 ∷ []) (1 ∷ 2 ∷ []) (1 ∷ 0 ∷ []) (ends success 3 2 0)
     ∷ listedOf l7 ((0 ∷ 0 ∷ 0 ∷ []) ∷ (1 ∷ 0 ∷ 1 ∷ []) ∷ (0 ∷ 2 ∷ 2 ∷ []) ∷ (1 ∷ 2 ∷ 2 ∷ []) ∷ (1 ∷ 2 ∷ 3 ∷ []) ∷ [])
     ∷ verdictOf l8 plenty plenty (gives (robust 1))
     ∷ verdictOf l1 plenty 71 (refused 9)
@@ -215,7 +215,7 @@ abbrev pub further : List Claim
 further =
     stepOf l1 0 1 (gives (go 2))
     ∷ stepOf l1 0 0 (gives wait)
-    ∷ stepOf l2 0 0 (gives Decision.collision)
+    ∷ stepOf l2 0 0 (gives (Decision.collision 1))
     -- a fact in both add and del ends true
     ∷ stepOf (with 3 5 3 l1) 0 1 (gives (go 3))
     ∷ stepOf l1 4 32 (refused 7)
@@ -231,18 +231,18 @@ further =
     ∷ checkOf (with 3 3 32 l1) 4
     ∷ checkOf (with 3 3 2 (with 4 0 2 l1)) 6
     -- collision, by the lowest action, before deadlock; then the shortest way on, by the lowest action
-    ∷ verdictOf collisionFirst plenty plenty (conflict collision 1 ((1 ∷ 6 ∷ []) ∷ (2 ∷ []) ∷ []) (1 ∷ 0 ∷ []))
+    ∷ verdictOf collisionFirst plenty plenty (conflict collision 1 2 ((1 ∷ 6 ∷ []) ∷ (2 ∷ []) ∷ []) (1 ∷ 0 ∷ []))
     -- by the moves that first listed the row; who has its goal ends
-    ∷ verdictOf endedWaits plenty plenty (conflict deadlock 2 ((0 ∷ []) ∷ (2 ∷ 3 ∷ []) ∷ []) (0 ∷ 1 ∷ []))
+    ∷ verdictOf endedWaits plenty plenty (conflict deadlock 2 0 ((0 ∷ []) ∷ (2 ∷ 3 ∷ []) ∷ []) (0 ∷ 1 ∷ []))
     -- all have theirs: the lowest member that can wait goes on
-    ∷ verdictOf allEnded plenty plenty (conflict deadlock 2 ((0 ∷ 1 ∷ []) ∷ (2 ∷ []) ∷ []) (0 ∷ 1 ∷ []))
+    ∷ verdictOf allEnded plenty plenty (conflict deadlock 2 0 ((0 ∷ 1 ∷ []) ∷ (2 ∷ []) ∷ []) (0 ∷ 1 ∷ []))
     ∷ replayOf l1 (9 ∷ []) (1 ∷ []) [] (refused 11)
     ∷ replayOf l1 (9 ∷ []) (0 ∷ 1 ∷ []) [] (refused 12)
     ∷ replayOf l1 (0 ∷ 9 ∷ 2 ∷ []) (2 ∷ 3 ∷ []) [] (refused 7)
     ∷ replayOf l1 (2 ∷ 9 ∷ []) (2 ∷ 2 ∷ []) [] (refused 10)
     ∷ replayOf l1 (0 ∷ 1 ∷ 2 ∷ 3 ∷ []) (2 ∷ 4 ∷ []) (2 ∷ 0 ∷ []) (refused 8)
     ∷ replayOf l1 (0 ∷ 1 ∷ 2 ∷ 3 ∷ []) (2 ∷ 4 ∷ []) (0 ∷ 1 ∷ 2 ∷ []) (refused 13)
-    ∷ replayOf l1 (0 ∷ 1 ∷ 2 ∷ 3 ∷ []) (2 ∷ 4 ∷ []) (0 ∷ []) (ends still-open 2 1)
+    ∷ replayOf l1 (0 ∷ 1 ∷ 2 ∷ 3 ∷ []) (2 ∷ 4 ∷ []) (0 ∷ []) (ends still-open 2 1 0)
     ∷ []
 
 -- solo searches: all live, with an odd word and a mark to spare; one live and one dead; none live; one row too few;
@@ -283,13 +283,13 @@ farApart =
 abbrev pub wider : List Claim
 wider =
     verdictOf acrossWords plenty plenty (gives (robust 12))
-    -- nobody waits: the colliding step lacks a fact of the low word, and another one of the high word
+    -- nobody waits: the colliding step lacks a fact of the low word
     ∷ verdictOf (with 3 3 0 (with 5 3 0 acrossWords)) plenty plenty
-    (conflict collision 1 ((0 ∷ 1 ∷ []) ∷ (2 ∷ 3 ∷ []) ∷ []) (0 ∷ 1 ∷ []))
+    (conflict collision 1 (2 ^ 61) ((0 ∷ 1 ∷ []) ∷ (2 ∷ 3 ∷ []) ∷ []) (0 ∷ 1 ∷ []))
     ∷ searchOf acrossWords 1 8 4
     (finds 4 true 4 (2 ^ 61 ∷ 0 ∷ 0 ∷ 1 ∷ 2 ^ 61 ∷ 2 ∷ 0 ∷ 3 ∷ []) (1 ∷ 1 ∷ 1 ∷ 1 ∷ []))
-    ∷ verdictOf farApart plenty plenty (conflict (missed 0) 2 ((0 ∷ []) ∷ (1 ∷ []) ∷ []) (0 ∷ 1 ∷ []))
-    ∷ replayOf farApart (0 ∷ 1 ∷ []) (1 ∷ 2 ∷ []) (1 ∷ 0 ∷ []) (ends success (2 ^ 127 + 1) 2)
+    ∷ verdictOf farApart plenty plenty (conflict (missed 0) 2 0 ((0 ∷ []) ∷ (1 ∷ []) ∷ []) (0 ∷ 1 ∷ []))
+    ∷ replayOf farApart (0 ∷ 1 ∷ []) (1 ∷ 2 ∷ []) (1 ∷ 0 ∷ []) (ends success (2 ^ 127 + 1) 2 0)
     ∷ stepOf farApart 0 0 (gives (go (2 ^ 127)))
     ∷ stepOf farApart 0 (2 ^ 128) (refused 4)
     -- eight words are too few; F goes to 128; words 5 to 8 of row 0 are zero, words 3 to 8 of a goal row
@@ -331,7 +331,7 @@ abbrev pub asks : List Claim
 asks =
     askOf l1 (at 1 0 0 not-yet 0) 0 (asked (go 2) (ticket 0 0))
     ∷ askOf l1 (at 2 1 0 not-yet 1) 1 (asked wait (ticket 1 1))
-    ∷ askOf l2 (at 2 1 0 not-yet 1) 1 (asked Decision.collision (ticket 1 1))
+    ∷ askOf l2 (at 2 1 0 not-yet 1) 1 (asked (Decision.collision 1) (ticket 1 1))
     -- no refusal at the last change number, nor for waiting
     ∷ askOf l1 (at 1 0 0 not-yet lastChange) 0 (asked (go 2) (ticket 0 lastChange))
     ∷ askOf l1 (at 2 1 0 not-yet lastChange) 1 (asked wait (ticket 1 lastChange))
@@ -350,7 +350,7 @@ commits =
     ∷ pickOf l2 (at 2 1 0 not-yet lastChange) 1 (refused 20)
     ∷ pickOf l1 (at 2 1 0 not-yet lastChange) 1 (refused 13)
     ∷ commitOf l1 (at 1 0 0 not-yet 0) (ticket 0 0) (tells goes 2 1)
-    ∷ commitOf l2 (at 2 1 0 not-yet 1) (ticket 1 1) (tells collides 2 2)
+    ∷ commitOf l2 (at 2 1 0 not-yet 1) (ticket 1 1) (tells (collides 1) 2 2)
     ∷ commitOf l1 (at 2 1 0 not-yet 1) (ticket 0 0) (refused 19)
     ∷ commitOf l1 (at 2 1 0 not-yet 1) (ticket 0 1) (tells goes 5 2)
     ∷ commitOf l1 (at 2 3 0 not-yet 1) (ticket 2 0) (refused 11)
@@ -359,4 +359,36 @@ commits =
     ∷ commitOf l1 (at 2 1 0 not-yet 1) (ticket 1 0) (refused 19)
     ∷ commitOf l1 (at 2 1 0 not-yet lastChange) (ticket 1 lastChange) (refused 13)
     ∷ commitOf l1 (at 1 0 0 not-yet lastChange) (ticket 0 lastChange) (refused 20)
+    ∷ []
+
+-- ---- what was missing (document 02, F-6)
+
+-- L2 with more preconditions of member 1's first step: facts 0, 1 and 2; and those with fact 1 waited for
+abbrev pub needsMore : List ℕ
+needsMore = with 5 1 7 l2
+
+abbrev pub waitsForOne : List ℕ
+waitsForOne = with 5 3 2 needsMore
+
+-- L1 across the words without waiting, its last step with preconditions in both words
+abbrev pub needsBoth : List ℕ
+needsBoth = with 6 1 (2 ^ 61) (with 3 3 0 (with 5 3 0 acrossWords))
+
+-- all that is missing and nothing that holds; no fact that is waited for, since those hold; facts of either word and of
+-- both; a deadlock, a goal missed, a success and a run that is open lack nothing
+abbrev pub lacks : List Claim
+lacks =
+    stepOf needsMore 2 0 (gives (Decision.collision 7))
+    ∷ stepOf needsMore 2 2 (gives (Decision.collision 5))
+    ∷ stepOf needsMore 2 29 (gives (Decision.collision 2))
+    ∷ stepOf needsMore 2 7 (gives (go 14))
+    ∷ stepOf waitsForOne 2 5 (gives wait)
+    ∷ stepOf waitsForOne 2 2 (gives (Decision.collision 5))
+    ∷ stepOf needsBoth 3 0 (gives (Decision.collision (2 ^ 61 + 2 ^ 64)))
+    ∷ stepOf needsBoth 3 (2 ^ 61) (gives (Decision.collision (2 ^ 64)))
+    ∷ stepOf needsBoth 3 (2 ^ 64) (gives (Decision.collision (2 ^ 61)))
+    ∷ pickOf l2 (at 2 1 0 not-yet 1) 1 (tells (collides 1) 2 2)
+    ∷ pickOf l2 (at 2 1 0 not-yet 1) 0 (tells goes 5 2)
+    ∷ replayOf l2 plansOfL1 endsOfL1 (0 ∷ []) (ends still-open 2 1 0)
+    ∷ replayOf l2 plansOfL1 endsOfL1 (1 ∷ 0 ∷ []) (ends (failure collision) 8 1 1)
     ∷ []

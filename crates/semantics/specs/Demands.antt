@@ -31,6 +31,8 @@
 -- carries plans and picks whose joint replay ends as the verdict says, and no run that fails has fewer picks that go:
 -- `Demand3`, and of the verdict's own answer `Demand3Answer`. That it is the same with whatever room: `OneVerdict`. What
 -- the verdict's search lists, and when it refuses: `VerdictSearch`.
+--
+-- What a collision tells (request F-6) are just the preconditions that are missing, and there are some: `MissingNamed`.
 use mathlib.Core.Path.{_≡_}
 use mathlib.Core.Bool.{Bool, true, false, cond, not}
 use mathlib.Core.Logic.{_↔_, _⊎_}
@@ -56,8 +58,8 @@ use Rattle.semantics.specs.Dispatch.{first, askOn, commitOn}
 use Rattle.semantics.specs.Verdict.{Room, localRows, configurationRows, tooShort, Verdict, unsolvable, notRobust}
 use Rattle.semantics.specs.Verdict.{robust, Failing, Conflict, sameRow, localCopy, sharedCopy, startRow, moved}
 use Rattle.semantics.specs.Verdict.{moves, conflictPicks, verdict, Slices, room, liveFor, listedIn, listedFor}
-use Rattle.semantics.specs.Model.{FactSet, _⊆_, Setting, apply, Executes, Solution, World, Acts, Collides}
-use Rattle.semantics.specs.Model.{Waiting, Execution, Deadlock, Success, Missed, GoesOn, begin, Robust}
+use Rattle.semantics.specs.Model.{FactSet, _⊆_, Setting, apply, Executes, Solution, World, Acts, Collides, unmet}
+use Rattle.semantics.specs.Model.{Lacks, Waiting, Execution, Deadlock, Success, Missed, GoesOn, begin, Robust}
 
 -- ---- demand 2: the operations agree with the execution model of social laws in MA-STRIPS
 
@@ -85,8 +87,10 @@ pub record StepAgrees (t : List ℕ) (a g : ℕ) : Type 0 where
       ↔ ((setting t .waitfor a ⊆ factsOf g) × (setting t .pre a ⊆ factsOf g)
       × (factsOf s ≡ apply (setting t) a (factsOf g)))
   pub waits : (step t a g ≡ gives Decision.wait) ↔ ¬ (setting t .waitfor a ⊆ factsOf g)
-  pub collides : (step t a g ≡ gives Decision.collision)
-      ↔ ((setting t .waitfor a ⊆ factsOf g) × ¬ (setting t .pre a ⊆ factsOf g))
+  pub collides : (m : ℕ)
+      → (step t a g ≡ gives (Decision.collision m))
+      ↔ ((setting t .waitfor a ⊆ factsOf g) × (¬ (setting t .pre a ⊆ factsOf g))
+      × (factsOf m ≡ unmet (setting t) a (factsOf g)))
 
 pub record SoloReplayAgrees (t : List ℕ) (i : ℕ) (plan : List ℕ) : Type 0 where
   pub solves : (soloReplay t i plan ≡ gives Solo.solves) ↔ Solution (setting t) i plan
@@ -114,13 +118,15 @@ OutcomeOf t w (failure (Fault.missed i)) = Missed (setting t) w i
 OutcomeOf t w (failure Fault.collision) = ⊥
 
 -- the picks, all executed, lead to a world with the facts of g and this outcome; or all but the last, which collides
-pub data Ends (t : List ℕ) (plans : List (List ℕ)) : List ℕ → Outcome → ℕ → ℕ → Type 0 where
+-- and lacks the facts of the last number
+pub data Ends (t : List ℕ) (plans : List (List ℕ)) : List ℕ → Outcome → ℕ → ℕ → ℕ → Type 0 where
   ends : {picks : List ℕ} {o : Outcome} {g : ℕ} {w : World (setting t)}
       → Execution (setting t) (worldOf t plans) picks w → OutcomeOf t w o → w .state ≡ factsOf g
-      → Ends t plans picks o g (length picks)
-  collided : {picks : List ℕ} {i g : ℕ} {w : World (setting t)}
-      → Execution (setting t) (worldOf t plans) picks w → Collides (setting t) w i → w .state ≡ factsOf g
-      → Ends t plans (picks ++ (i ∷ [])) (failure Fault.collision) g (length picks)
+      → Ends t plans picks o g (length picks) 0
+  collided : {picks : List ℕ} {i g m : ℕ} {w : World (setting t)}
+      → Execution (setting t) (worldOf t plans) picks w → Collides (setting t) w i → Lacks (setting t) w i (factsOf m)
+      → w .state ≡ factsOf g
+      → Ends t plans (picks ++ (i ∷ [])) (failure Fault.collision) g (length picks) m
 
 -- the task check passes, the ends fit the plan slice, and each plan is an individual solution
 pub record SolvingPlans (t plans ends : List ℕ) : Type 0 where
@@ -136,9 +142,9 @@ pub record JointReplayAgrees (t plans ends : List ℕ) : Type 0 where
   pub begins : plansRefusal t plans ends ≡ 0 → (a : Replay ℕ) × (jointReplay t plans ends [] ≡ gives a)
   pub answers : (picks : List ℕ) (a : Replay ℕ) → jointReplay t plans ends picks ≡ gives a
       → plansRefusal t plans ends ≡ 0
-  pub replays : plansRefusal t plans ends ≡ 0 → (picks : List ℕ) (o : Outcome) (g k : ℕ)
-      → (jointReplay t plans ends picks ≡ gives (record { outcome = o; shared = g; picked = k }))
-      ↔ Ends t (plansOf (members t) plans ends) picks o g k
+  pub replays : plansRefusal t plans ends ≡ 0 → (picks : List ℕ) (o : Outcome) (g k m : ℕ)
+      → (jointReplay t plans ends picks ≡ gives (record { outcome = o; shared = g; picked = k; missing = m }))
+      ↔ Ends t (plansOf (members t) plans ends) picks o g k m
 
 -- ---- a pick on a run
 
@@ -160,14 +166,17 @@ abbrev pub Stays : (Π : Setting) → World Π → ℕ → Type 0
 Stays Π w i = Waiting Π w i ⊎ (w .left i ≡ [])
 
 -- Each answer of a pick, both ways: the run moves by just the one step that the scheduler's choice executes; a
--- collision closes it and changes nothing else; 8 for no agent; 13 for an agent that waits or has ended, and for every
--- agent of a run that is closed.
+-- collision closes it, changes nothing else and tells what is lacking; 8 for no agent; 13 for an agent that waits or has
+-- ended, and for every agent of a run that is closed.
 pub record PickAgrees (t plans ends : List ℕ) (r : Run ℕ) (i : ℕ) : Type 0 where
   pub goes : (g : ℕ)
       → (pickOn t plans ends r i ≡ gives (record { reply = Reply.goes; run = stepped r i g }))
       ↔ ((r .closed ≡ not-yet) × Acts (setting t) (worldIn t plans ends r) i (worldIn t plans ends (stepped r i g)))
-  pub collides : (pickOn t plans ends r i ≡ gives (record { reply = Reply.collides; run = closedBy r Fault.collision }))
-      ↔ ((r .closed ≡ not-yet) × Collides (setting t) (worldIn t plans ends r) i)
+  pub collides : (m : ℕ)
+      → (pickOn t plans ends r i ≡ gives (record { reply = Reply.collides m; run = closedBy r Fault.collision }))
+      ↔ ((r .closed ≡ not-yet)
+      × Collides (setting t) (worldIn t plans ends r) i
+      × Lacks (setting t) (worldIn t plans ends r) i (factsOf m))
   pub nobody : (pickOn t plans ends r i ≡ refused 8) ↔ ¬ (i < members t)
   pub impossible : (pickOn t plans ends r i ≡ refused 13)
       ↔ ((i < members t) × ((isClosed (r .closed) ≡ true) ⊎ Stays (setting t) (worldIn t plans ends r) i))
@@ -187,8 +196,11 @@ pub record AskAgrees (t plans ends : List ℕ) (d : Numbered ℕ) (i : ℕ) : Ty
       × Acts (setting t) (worldIn t plans ends (d .run)) i (worldIn t plans ends (stepped (d .run) i g)))
   pub waits : (askOn t plans ends d i ≡ gives (record { decision = Decision.wait; ticket = ticketOf d i }))
       ↔ ((d .run .closed ≡ not-yet) × (i < members t) × Waiting (setting t) (worldIn t plans ends (d .run)) i)
-  pub collides : (askOn t plans ends d i ≡ gives (record { decision = Decision.collision; ticket = ticketOf d i }))
-      ↔ ((d .run .closed ≡ not-yet) × Collides (setting t) (worldIn t plans ends (d .run)) i)
+  pub collides : (m : ℕ)
+      → (askOn t plans ends d i ≡ gives (record { decision = Decision.collision m; ticket = ticketOf d i }))
+      ↔ ((d .run .closed ≡ not-yet)
+      × Collides (setting t) (worldIn t plans ends (d .run)) i
+      × Lacks (setting t) (worldIn t plans ends (d .run)) i (factsOf m))
   pub nobody : (askOn t plans ends d i ≡ refused 8) ↔ ¬ (i < members t)
   pub impossible : (askOn t plans ends d i ≡ refused 13)
       ↔ ((i < members t)
@@ -289,7 +301,13 @@ pub record Replays (t : List ℕ) (listed : ℕ) (c : Conflict) : Type 0 where
   pub few : length (c .picks) ≤ listed
   pub shared : ℕ
   pub replays : jointReplay t (flatten (c .plans)) (endsFrom 0 (c .plans)) (c .picks)
-      ≡ gives (record { outcome = failure (c .told .fault); shared = shared; picked = c .told .picked })
+      ≡ gives
+      (record {
+        outcome = failure (c .told .fault);
+        shared = shared;
+        picked = c .told .picked;
+        missing = c .told .missing;
+      })
 
 -- no run that fails, over all choices of solving plans and all lists of picks, has fewer than k picks that go
 abbrev pub Fewest : List ℕ → ℕ → Type 0
@@ -381,6 +399,56 @@ pub record VerdictSearch (t : List ℕ) (room : Room) : Type 0 where
 
 abbrev pub Searches : Type 0
 Searches = (t : List ℕ) (room : Room) → check t ≡ 0 → tooShort t room ≡ false → VerdictSearch t room
+
+-- ---- what was missing (request F-6)
+
+-- The mask m of a collision of action a at the shared copy g is never empty; each of its facts is a precondition of the
+-- action and is not in the shared copy; each precondition that is not there is in it. None is waited for.
+pub record Missing (t : List ℕ) (a g m : ℕ) : Type 0 where
+  pub some : (f : ℕ) × (has f m ≡ true)
+  pub needed : (f : ℕ) → has f m ≡ true → has f (Task.pre t a) ≡ true
+  pub absent : (f : ℕ) → has f m ≡ true → has f g ≡ false
+  pub all : (f : ℕ) → has f (Task.pre t a) ≡ true → has f g ≡ false → has f m ≡ true
+  pub unwaited : (f : ℕ) → has f m ≡ true → has f (Task.wait t a) ≡ false
+
+-- the same of agent j's pending action in the world w, which has the facts of g
+abbrev pub PendingMisses : (t : List ℕ) → World (setting t) → ℕ → ℕ → ℕ → Type 0
+PendingMisses t w j g m = (a : ℕ) × (π : List ℕ) × (w .left j ≡ a ∷ π) × (w .state ≡ factsOf g) × Missing t a g m
+
+-- what joint replay tells: where it ends by a collision, what the last pick lacks after all others are executed; else 0
+pub record ReplayMisses (t plans ends picks : List ℕ) (a : Replay ℕ) : Type 0 where
+  pub collision : a .outcome ≡ failure Fault.collision
+      → (js : List ℕ)
+      × (j : ℕ)
+      × (w : World (setting t))
+      × (picks ≡ js ++ (j ∷ []))
+      × Execution (setting t) (worldOf t (plansOf (members t) plans ends)) js w
+      × PendingMisses t w j (a .shared) (a .missing)
+  pub other : ¬ (a .outcome ≡ failure Fault.collision) → a .missing ≡ 0
+
+-- each operation that answers a collision, and the conflict, whose replay it is
+pub record MissingNamed (t : List ℕ) : Type 0 where
+  pub inStep : (a g m : ℕ) → step t a g ≡ gives (Decision.collision m) → Missing t a g m
+  pub inAsk : (plans ends : List ℕ) (d : Numbered ℕ) (j m : ℕ) (k : Ticket)
+      → askOn t plans ends d j ≡ gives (record { decision = Decision.collision m; ticket = k })
+      → PendingMisses t (worldIn t plans ends (d .run)) j (d .run .shared) m
+  pub inPick : (plans ends : List ℕ) (d e : Numbered ℕ) (j m : ℕ)
+      → pickNumbered t plans ends d j ≡ gives (record { reply = Reply.collides m; run = e })
+      → PendingMisses t (worldIn t plans ends (d .run)) j (d .run .shared) m
+  pub inCommit : (plans ends : List ℕ) (d e : Numbered ℕ) (k : Ticket) (m : ℕ)
+      → commitOn t plans ends d k ≡ gives (record { reply = Reply.collides m; run = e })
+      → PendingMisses t (worldIn t plans ends (d .run)) (k .member) (d .run .shared) m
+  pub inReplay : (plans ends picks : List ℕ) (a : Replay ℕ) → jointReplay t plans ends picks ≡ gives a
+      → ReplayMisses t plans ends picks a
+  pub inConflict : (room : Room) (c : Conflict) → verdict t room ≡ gives (notRobust c)
+      → (g : ℕ)
+      × ReplayMisses t (flatten (c .plans)) (endsFrom 0 (c .plans)) (c .picks)
+      (record {
+        outcome = failure (c .told .fault);
+        shared = g;
+        picked = c .told .picked;
+        missing = c .told .missing;
+      })
 
 -- ---- the dispatcher: ask, then commit (request F-4); its picks make the runs of demand 3
 --

@@ -61,6 +61,14 @@ module _ (Π : Setting) where
     collides : {a : ℕ} {π : List ℕ} → i < Π .agents → w .left i ≡ a ∷ π → Π .waitfor a ⊆ w .state
         → ¬ (Π .pre a ⊆ w .state) → Collides w i
 
+  -- the preconditions of action a that do not hold in s
+  abbrev pub unmet : ℕ → FactSet → FactSet
+  unmet a s f = Π .pre a f && not (s f)
+
+  -- agent i's pending action lacks just these facts
+  abbrev pub Lacks : World → ℕ → FactSet → Type 0
+  Lacks w i m = (a : ℕ) × (π : List ℕ) × (w .left i ≡ a ∷ π) × (m ≡ unmet a (w .state))
+
   -- agent i's pending action waits for a precondition
   pub data Waiting (w : World) (i : ℕ) : Type 0 where
     waiting : {a : ℕ} {π : List ℕ} → w .left i ≡ a ∷ π → ¬ (Π .waitfor a ⊆ w .state) → Waiting w i

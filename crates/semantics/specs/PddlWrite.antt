@@ -7,7 +7,7 @@ use Prim.Native.String.{String, len, charAt}
 use lib.ListN.{length, take}
 use lib.Dec.{eqb, ltb}
 use Rattle.semantics.specs.Base.{upTo, keep, _if_, Answer, refused, gives, _leaves_otherwise_, padded}
-use Rattle.semantics.specs.Mask.{has}
+use Rattle.semantics.specs.Mask.{standing}
 use Rattle.semantics.specs.Words.{rowWords}
 use Rattle.semantics.specs.Task.{rowWidth, facts, members, actions, initial, goal, owner, pre, wait, add, del}
 use Rattle.semantics.specs.Task.{check}
@@ -44,10 +44,6 @@ each text xs = flatten (map text xs)
 unfoldable pub numbered : (ℕ → ℕ → List ℕ) → ℕ → List ℕ → List ℕ
 numbered text k [] = []
 numbered text k (x ∷ xs) = text k x ++ numbered text (suc k) xs
-
--- the facts below F that stand in a mask, rising
-unfoldable pub standing : ℕ → ℕ → List ℕ
-standing F x = keep (λ f. has f x) (upTo F)
 
 -- ---- the text of the law
 

@@ -33,10 +33,10 @@ pub record Run (State : Type 0) : Type 0 where
   pub places : ℕ → ℕ
   pub closed : Closed
 
--- what a pick that is not refused replies
+-- what a pick that is not refused replies; a collision with the mask of the preconditions that are missing
 pub data Reply : Type 0 where
   goes : Reply
-  collides : Reply
+  collides : ℕ → Reply
 
 -- its reply, and the run after it, a run of whatever type R
 pub record Replied (R : Type 0) : Type 0 where
@@ -80,7 +80,7 @@ module _ {State : Type 0} where
   abbrev pub advance : Run State → ℕ → Decision State → Answer (Replied (Run State))
   advance r j (Decision.go g) = gives (record { reply = goes; run = stepped r j g })
   advance r j Decision.wait = refused 13
-  advance r j Decision.collision = gives (record { reply = collides; run = closedBy r collision })
+  advance r j (Decision.collision m) = gives (record { reply = collides m; run = closedBy r collision })
 
 module _ {R : Type 0} where
   abbrev pub given : Answer (Replied R) → Bool
@@ -100,11 +100,20 @@ module _ {R : Type 0} where
 -- k picks done, and one more where it goes
 abbrev pub counted : ℕ → Reply → ℕ
 counted k goes = k + 1
-counted k collides = k
+counted k (collides m) = k
 
 abbrev pub tally : {R : Type 0} → ℕ → Answer (Replied R) → ℕ
 tally k (refused e) = k
 tally k (gives p) = counted k (p .reply)
+
+-- the mask of what a pick lacks, 0 unless it collides
+abbrev pub lackedBy : Reply → ℕ
+lackedBy goes = 0
+lackedBy (collides m) = m
+
+abbrev pub lacked : {R : Type 0} → Answer (Replied R) → ℕ
+lacked (refused e) = 0
+lacked (gives p) = lackedBy (p .reply)
 
 module _ (S : System) where
   unfoldable pub start : Run (S .State)
@@ -121,6 +130,8 @@ pub record Replay (State : Type 0) : Type 0 where
   pub shared : State
   -- picks done, a collision pick not counted
   pub picked : ℕ
+  -- the mask of what the colliding pick lacks, 0 where there is none
+  pub missing : ℕ
 
 module _ (S : System) (waits : Waits S) (plans : List (List ℕ)) where
   -- a pick of member j with these steps left
@@ -152,15 +163,15 @@ module _ (S : System) (waits : Waits S) (plans : List (List ℕ)) where
   play r [] = r
   play r (j ∷ js) = play (passOver r (pick r j)) js
 
-  -- joint replay from a run on, k picks being done: the first bad pick is refused
-  unfoldable pub replayOn : Answer (Run (S .State)) → ℕ → List ℕ → Answer (Replay (S .State))
-  replayOn (refused e) k [] = refused e
-  replayOn (refused e) k (j ∷ js) = refused e
-  replayOn (gives r) k [] = gives (record { outcome = outcome r; shared = r .shared; picked = k })
-  replayOn (gives r) k (j ∷ js) = replayOn (runAfter (pick r j)) (tally k (pick r j)) js
+  -- joint replay from a run on, k picks being done, of which the last lacked m: the first bad pick is refused
+  unfoldable pub replayOn : Answer (Run (S .State)) → ℕ → ℕ → List ℕ → Answer (Replay (S .State))
+  replayOn (refused e) k m [] = refused e
+  replayOn (refused e) k m (j ∷ js) = refused e
+  replayOn (gives r) k m [] = gives (record { outcome = outcome r; shared = r .shared; picked = k; missing = m })
+  replayOn (gives r) k m (j ∷ js) = replayOn (runAfter (pick r j)) (tally k (pick r j)) (lacked (pick r j)) js
 
   unfoldable pub replay : List ℕ → Answer (Replay (S .State))
-  replay picks = replayOn (gives (start S)) 0 picks
+  replay picks = replayOn (gives (start S)) 0 0 picks
 
 -- ---- the plan slice and the ends of the plans in it
 

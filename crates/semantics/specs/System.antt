@@ -6,18 +6,23 @@ use mathlib.Core.List.{List, [], _∷_}
 use Prim.Native.Nat.{ℕ, _<_}
 use lib.ListN.{length, getD}
 use lib.Dec.{eqb}
-use Rattle.semantics.specs.Mask.{within, after}
+use Rattle.semantics.specs.Mask.{within, without, after}
 use Rattle.semantics.specs.Task as Task
 
--- what an action makes of a state: a new state, or nothing, where the state lacks preconditions
+-- what an action makes of a state: a new state, or nothing, where the state lacks preconditions; their mask
 pub data Attempt (State : Type 0) : Type 0 where
   goes : State → Attempt State
-  lacks : Attempt State
+  lacks : ℕ → Attempt State
 
 -- f of the state that an attempt goes to, x where it goes nowhere
 abbrev pub tried : {State B : Type 0} → Attempt State → (State → B) → B → B
 tried (goes s) f x = f s
-tried lacks f x = x
+tried (lacks m) f x = x
+
+-- the mask of what is lacking, 0 where nothing is
+abbrev pub lacking : {State : Type 0} → Attempt State → ℕ
+lacking (goes s) = 0
+lacking (lacks m) = m
 
 pub record System : Type 1 where
   pub State : Type 0
@@ -39,6 +44,10 @@ module _ (S : System) (a : ℕ) (s : S .State) where
   -- the state after action a; s itself where it does not go
   abbrev pub result : S .State
   result = tried (S .act a s) (λ next. next) s
+
+  -- the mask of the preconditions of action a that s lacks; 0 where it goes
+  abbrev pub missing : ℕ
+  missing = lacking (S .act a s)
 
 -- some precondition of action a that is waited for does not hold in s
 abbrev pub Waits : System → Type 0
@@ -62,7 +71,9 @@ system t =
       owner = Task.owner t;
       init = Task.initial t;
       goal = λ i s. within (Task.goal t i) s;
-      act = λ a s. cond (within (Task.pre t a) s) (goes (after s (Task.add t a) (Task.del t a))) lacks;
+      act = λ a s.
+          cond (within (Task.pre t a) s) (goes (after s (Task.add t a) (Task.del t a)))
+          (lacks (without (Task.pre t a) s));
     }
 
 abbrev pub waits : (t : List ℕ) → Waits (system t)

@@ -14,9 +14,10 @@ use Rattle.semantics.specs.Mask.{within}
 use Rattle.semantics.specs.Task.{check, members, actions, owner, initial, goal}
 use Rattle.semantics.specs.System.{goes, lacks, system}
 use Rattle.semantics.specs.Solo.{Solo, solves, breaks, short, soloFrom, entry, soloReplay}
-use Rattle.mask.specs.Number.{localNumber}
+use Rattle.mask.specs.Number.{number, localNumber}
 use Rattle.mask.specs.declared.Local.{Local}
 use Rattle.step.specs.Value.{localAttemptOf}
+use Rattle.mask.specs.declared.Mask.{Mask}
 use Rattle.step.specs.declared.LocalAttempt.{LocalAttempt}
 use Rattle.step.specs.declared.LocalAttempt.the-variants.{To, Lacks}
 use Rattle.theory.proofs.Refusals.{else-both, if-not-true}
@@ -50,10 +51,10 @@ module _ (t : List ℕ) (i : ℕ) (plan : List ℕ) where
 
   module _ (s k : ℕ) (r : Played t i plan s k) where
     module _ (h : k < length plan) (n : LocalAttempt) (is : localAttemptOf n ≡ system t .act (getD plan k 0) s) where
-      pub breaks-there : n ≡ Lacks → breaks k ≡ soloFrom (system t) i 0 (initial t) plan
+      pub breaks-there : (m : Mask) → n ≡ Lacks m → breaks k ≡ soloFrom (system t) i 0 (initial t) plan
       unfolding soloFrom
-      breaks-there e =
-          let q : lacks ≡ system t .act (getD plan k 0) s = sym (ap localAttemptOf e) ∙ is in
+      breaks-there m e =
+          let q : lacks (number m) ≡ system t .act (getD plan k 0) s = sym (ap localAttemptOf e) ∙ is in
           sym (r .rest ∙ rw (drop-cons plan k 0 h, ← q))
 
       pub goes-on : (x : Local) → n ≡ To x → Played t i plan (localNumber x) (k + 1)

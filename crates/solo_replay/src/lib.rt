@@ -90,7 +90,7 @@ pub fn replay(t: &[u64], i: usize, plan: &[u16]) -> Solo
         let r = step::local_act(t, a, s);
         match r {
             LocalAttempt::To(x) => s = x,
-            LocalAttempt::Lacks => return Solo::Breaks(k),
+            LocalAttempt::Lacks(_) => return Solo::Breaks(k),
         }
         k += 1;
     }

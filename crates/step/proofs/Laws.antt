@@ -6,7 +6,7 @@ use Prim.Native.Nat.{ℕ, zero, suc, _≤_, _<_}
 use native.Mathlib.Omega.{arith}
 use borrow.Author.Tests.{lt-ltb, le-ltb, not-true, not-false}
 use Rattle.semantics.specs.Base.{refused, gives}
-use Rattle.semantics.specs.Mask.{within, after, below}
+use Rattle.semantics.specs.Mask.{within, without, after, below}
 use Rattle.semantics.specs.Task as Task
 use Rattle.semantics.specs.Task.{check, facts, actions}
 use Rattle.semantics.specs.System as Paper
@@ -28,8 +28,8 @@ module _ (t : List ℕ) (a m x : ℕ) where
   waits-is e b k = rw (← e, ← k)
 
   module _ (e : x ≡ Task.pre t a) (b : Bool) (k : b ≡ within x m) where
-    pub act-lacks : not b ≡ true → lacks ≡ system t .act a m
-    act-lacks h = rw (← e, ← k, not-true b h)
+    pub act-lacks : not b ≡ true → (n : ℕ) → n ≡ without x m → lacks n ≡ system t .act a m
+    act-lacks h n k₁ = rw (← e, ← k, not-true b h, ← k₁)
 
     pub act-goes : not b ≡ false → (y z n : ℕ) → y ≡ Task.add t a → z ≡ Task.del t a → n ≡ after m y z
         → goes n ≡ system t .act a m
@@ -41,15 +41,15 @@ module _ (A : Paper.Attempt ℕ) (r : Attempt) (is : attemptOf r ≡ A) where
   pub local-goes : (m : Mask) → r ≡ Masked.To m → goes (number m) ≡ A
   local-goes m e = sym (ap attemptOf e) ∙ is
 
-  pub local-lacks : r ≡ Masked.Lacks → lacks ≡ A
-  local-lacks e = sym (ap attemptOf e) ∙ is
+  pub local-lacks : (m : Mask) → r ≡ Masked.Lacks m → lacks (number m) ≡ A
+  local-lacks m e = sym (ap attemptOf e) ∙ is
 
 module _ (t : List ℕ) (a s : ℕ) (r : LocalAttempt) (is : localAttemptOf r ≡ system t .act a s) where
   pub result-goes : (x : Local) → r ≡ To x → localNumber x ≡ result (system t) a s
   result-goes x e = let k : goes (localNumber x) ≡ system t .act a s = sym (ap localAttemptOf e) ∙ is in rw (← k)
 
-  pub result-stays : r ≡ Lacks → s ≡ result (system t) a s
-  result-stays e = let k : lacks ≡ system t .act a s = sym (ap localAttemptOf e) ∙ is in rw (← k)
+  pub result-stays : (m : Mask) → r ≡ Lacks m → s ≡ result (system t) a s
+  result-stays m e = let k : lacks (number m) ≡ system t .act a s = sym (ap localAttemptOf e) ∙ is in rw (← k)
 
 -- ---- the routine
 
@@ -63,9 +63,11 @@ module _ (t : List ℕ) (a g : ℕ) (b : Bool) (k : b ≡ waits t a g) where
     unfolding routine
     goes-there m e = let q : goes (number m) ≡ system t .act a g = sym (ap attemptOf e) ∙ is in rw (← k, h, ← q)
 
-    pub collides-there : r ≡ Masked.Lacks → collision ≡ routine (system t) (waits t) a g
+    pub collides-there : (m : Mask) → r ≡ Masked.Lacks m → collision (number m) ≡ routine (system t) (waits t) a g
     unfolding routine
-    collides-there e = let q : lacks ≡ system t .act a g = sym (ap attemptOf e) ∙ is in rw (← k, h, ← q)
+    collides-there m e =
+        let q : lacks (number m) ≡ system t .act a g = sym (ap attemptOf e) ∙ is in
+        rw (← k, h, ← q)
 
 -- ---- the operation
 

@@ -15,16 +15,16 @@ use Rattle.step.specs.declared.Stepped.the-variants.{Refused, Gives}
 
 abbrev pub attemptOf : Attempt → System.Attempt ℕ
 attemptOf (Masked.To m) = System.goes (number m)
-attemptOf Masked.Lacks = System.lacks
+attemptOf (Masked.Lacks m) = System.lacks (number m)
 
 abbrev pub localAttemptOf : LocalAttempt → System.Attempt ℕ
 localAttemptOf (To s) = System.goes (localNumber s)
-localAttemptOf Lacks = System.lacks
+localAttemptOf (Lacks m) = System.lacks (number m)
 
 abbrev pub decisionOf : Decision → Paper.Decision ℕ
 decisionOf (Go g) = Paper.go (sharedNumber g)
 decisionOf Wait = Paper.wait
-decisionOf Collision = Paper.collision
+decisionOf (Collision m) = Paper.collision (number m)
 
 abbrev pub steppedOf : Stepped → Answer (Paper.Decision ℕ)
 steppedOf (Refused k) = refused k

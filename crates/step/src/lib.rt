@@ -10,23 +10,24 @@ use mask::Local;
 use mask::Mask;
 use mask::Shared;
 
-// What an action makes of a mask: a new one, or nothing, where the mask lacks preconditions.
+// What an action makes of a mask: a new one, or nothing, where the mask lacks preconditions: these.
 enum Attempt {
     To(Mask),
-    Lacks,
+    Lacks(Mask),
 }
 
 // The same of a local copy.
 pub enum LocalAttempt {
     To(Local),
-    Lacks,
+    Lacks(Mask),
 }
 
-// What a pending action answers at a shared copy: go with the new one, wait, or collision.
+// What a pending action answers at a shared copy: go with the new one, wait, or collision with the
+// preconditions that are missing.
 pub enum Decision {
     Go(Shared),
     Wait,
-    Collision,
+    Collision(Mask),
 }
 
 // The operation's answer.
@@ -52,8 +53,10 @@ fn act(t: &[u64], a: usize, m: Mask) -> Attempt
     requires { ⌜ a < actions (now t) ⌝ }
     ensures { λ r. ⌜ attemptOf r ≡ system (now (t .entry)) .act a (number m) ⌝ }
 {
-    if !mask::within(task::pre(t, a), m) {
-        return Attempt::Lacks;
+    let pre = task::pre(t, a);
+    if !mask::within(pre, m) {
+        let missing = mask::without(pre, m);
+        return Attempt::Lacks(missing);
     }
     let next = mask::after(m, task::add(t, a), task::del(t, a));
     Attempt::To(next)
@@ -70,7 +73,7 @@ pub fn local_act(t: &[u64], a: usize, s: Local) -> LocalAttempt
     let r = act(t, a, s.0);
     match r {
         Attempt::To(m) => LocalAttempt::To(Local(m)),
-        Attempt::Lacks => LocalAttempt::Lacks,
+        Attempt::Lacks(missing) => LocalAttempt::Lacks(missing),
     }
 }
 
@@ -83,7 +86,7 @@ pub fn local_result(t: &[u64], a: usize, s: Local) -> Local
     let r = local_act(t, a, s);
     match r {
         LocalAttempt::To(x) => x,
-        LocalAttempt::Lacks => s,
+        LocalAttempt::Lacks(_) => s,
     }
 }
 
@@ -102,7 +105,7 @@ pub fn decide(t: &[u64], a: usize, g: Shared) -> Decision
     let r = act(t, a, g.0);
     match r {
         Attempt::To(m) => Decision::Go(Shared(m)),
-        Attempt::Lacks => Decision::Collision,
+        Attempt::Lacks(missing) => Decision::Collision(missing),
     }
 }
 

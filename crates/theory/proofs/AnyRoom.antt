@@ -19,7 +19,7 @@ use Rattle.semantics.specs.Verdict.{sameRow, Row, localCopy, sharedCopy, startR
 use Rattle.semantics.specs.Verdict.{collides, ownMoves, colliding, waiting, goesOn, lastPick, restAt, Conflict}
 use Rattle.semantics.specs.Verdict.{conflictBy, faulty, firstConflict, walkTo, Verdict, unsolvable, notRobust, robust}
 use Rattle.semantics.specs.Verdict.{Room, localRows, configurationRows, tooShort, allLive, liveIn, liveFor, listedWith}
-use Rattle.semantics.specs.Verdict.{verdictIn, verdict}
+use Rattle.semantics.specs.Verdict.{missingAt, verdictIn, verdict}
 use Rattle.semantics.specs.Demands.{OneVerdict}
 use Rattle.theory.proofs.Lists.{true-not-false, lt-or-ge, map-same, mem-getD, upTo-mem, true-any, false-any}
 use Rattle.theory.proofs.First.{lowest, first-at, first-index}
@@ -111,7 +111,7 @@ module _ (S : System) (W : Waits S) (lawful : Lawful S W) where
       conflict-same {f} s walk =
           ap
           (λ (plans : List (List ℕ)). record {
-            told = record { fault = f; picked = length walk };
+            told = record { fault = f; picked = length walk; missing = missingAt S W live c f };
             plans = plans;
             picks = map (S .owner) walk ++ lastPick S W live c f;
           })

@@ -21,6 +21,7 @@ pub mod Loops
 pub mod Lonely
 pub mod Marks
 pub mod Masks
+pub mod Missing
 pub mod Picks
 pub mod Plans
 pub mod Refusals

@@ -12,7 +12,7 @@ use lib.Arith.{bin-ind}
 use lib.Pow.{pow-mono}
 use lib.Bits.{bitAnd, bitOr, and-step, or-step, and-le-l, or-lt, shifted-half, or-shifted}
 use borrow.Author.Tests.{ltb-true, lt-ltb, eqb-true, eq-eqb}
-use Rattle.semantics.specs.Mask.{has, within, after, below}
+use Rattle.semantics.specs.Mask.{has, within, without, after, below}
 use Rattle.semantics.specs.Words.{ofWords}
 use Rattle.semantics.specs.Model.{_⊆_}
 use Rattle.semantics.specs.Demands.{factsOf}
@@ -70,10 +70,6 @@ or-last a b = go (digit a) (digit b)
     go (even e h) (odd e′ h′) = rw (h, h′) (odd-has (bitOr a b) (omega (arith, or-step a b)))
     go (even e h) (even e′ h′) = rw (h, h′) (even-has (bitOr a b) (omega (arith, or-step a b)))
 
--- the facts of s without those of d
-abbrev without : ℕ → ℕ → ℕ
-without s d = s - bitAnd s d
-
 without-last : (s d : ℕ) → has 0 (without s d) ≡ (has 0 s && not (has 0 d))
 without-last s d = go (digit s) (digit d)
   where
@@ -88,7 +84,7 @@ and-has = digitwise bitAnd _&&_ (λ a b. omega (arith, and-step a b)) and-last
 pub or-has : (f a b : ℕ) → has f (bitOr a b) ≡ (has f a || has f b)
 or-has = digitwise bitOr _||_ (λ a b. omega (arith, or-step a b)) or-last
 
-pub without-has : (f s d : ℕ) → has f (s - bitAnd s d) ≡ (has f s && not (has f d))
+pub without-has : (f s d : ℕ) → has f (without s d) ≡ (has f s && not (has f d))
 without-has =
     digitwise without (λ x y. x && not y)
     (λ s d. omega (arith, and-step s d, and-le-l s d, and-le-l (s / 2) (d / 2)))
@@ -124,6 +120,16 @@ mask-ext =
     (bin-ind (λ (b : ℕ). ((f : ℕ) → has f 0 ≡ has f b) → 0 ≡ b) (λ h. refl)
     (λ b ih h. let e = ih (half-same 0 b h) in omega (arith, last-same 0 b (h 0))))
     (λ a ih b h. let e = ih (b / 2) (half-same a b h) in omega (arith, last-same a b (h 0)))
+
+-- a mask that is not empty has a fact
+pub some-fact : (m : ℕ) → ¬ (m ≡ 0) → (f : ℕ) × (has f m ≡ true)
+some-fact =
+    bin-ind (λ (m : ℕ). ¬ (m ≡ 0) → (f : ℕ) × (has f m ≡ true)) (λ n. absurd (n refl)) (λ m ih n. at m ih n (digit m))
+  where
+    at : (m : ℕ) → (¬ (m / 2 ≡ 0) → (f : ℕ) × (has f (m / 2) ≡ true)) → ¬ (m ≡ 0) → Digit m
+        → (f : ℕ) × (has f m ≡ true)
+    at m ih n (odd e h) = (0, h)
+    at m ih n (even e h) = let f = ih (λ z. n (omega arith)) in (suc (f .0), has-suc (f .0) m ∙ f .1)
 
 -- ---- inclusion
 

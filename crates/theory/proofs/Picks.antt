@@ -8,8 +8,8 @@ use lib.Seq.{drop-drop}
 use lib.Dec.{ltb}
 use borrow.Author.Tests.{ltb-true, ltb-false, lt-ltb, le-ltb, eq-eqb, ne-eqb}
 use Rattle.semantics.specs.Base.{_if_, _else_, Answer, refused, gives, unless}
-use Rattle.semantics.specs.System.{System, Waits, tried, able, result}
-use Rattle.semantics.specs.Step.{Decision, routine}
+use Rattle.semantics.specs.System.{System, Waits, able, result, missing}
+use Rattle.semantics.specs.Step.{Decision, attempted, routine}
 use Rattle.semantics.specs.Run.{Run, Closed, not-yet, by, isClosed, Replied, rest, stepped, advance, pickStep, pick}
 use Rattle.semantics.specs.Dispatch as Dispatch
 use Rattle.semantics.specs.Dispatch.{nextStep}
@@ -24,14 +24,14 @@ closed-open e f = true-not-false e (ap isClosed f)
 pub data Decided (S : System) (W : Waits S) (a : ℕ) (g : S .State) : Decision (S .State) → Type 0 where
   waits : W a g ≡ true → Decided S W a g Decision.wait
   goes : W a g ≡ false → able S a g ≡ true → Decided S W a g (Decision.go (result S a g))
-  collides : W a g ≡ false → able S a g ≡ false → Decided S W a g Decision.collision
+  collides : W a g ≡ false → able S a g ≡ false → Decided S W a g (Decision.collision (missing S a g))
 
 pub decided : (S : System) (W : Waits S) (a : ℕ) (g : S .State) → Decided S W a g (routine S W a g)
 unfolding routine
 decided S W a g = at (W a g) refl (able S a g) refl
   where
     at : (w : Bool) → W a g ≡ w → (b : Bool) → able S a g ≡ b
-        → Decided S W a g (cond w Decision.wait (tried (S .act a g) Decision.go Decision.collision))
+        → Decided S W a g (cond w Decision.wait (attempted (S .act a g)))
     at true e b f = Decided.waits e
     at false e true f = rw (able-goes S a g f) (Decided.goes e f)
     at false e false f = rw (unable-lacks S a g f) (Decided.collides e f)
@@ -115,7 +115,7 @@ module _ (S : System) (W : Waits S) (plans : List (List ℕ)) where
         → able S a (r .shared) ≡ true → Picked r j (advance r j (Decision.go (result S a (r .shared))))
     collides : {a : ℕ} {p : List ℕ} → j < S .members → r .closed ≡ not-yet → rest plans r j ≡ a ∷ p
         → W a (r .shared) ≡ false
-        → able S a (r .shared) ≡ false → Picked r j (advance r j Decision.collision)
+        → able S a (r .shared) ≡ false → Picked r j (advance r j (Decision.collision (missing S a (r .shared))))
 
   pub picked : (r : Run (S .State)) (j : ℕ) → Picked r j (pick S W plans r j)
   picked r j = subst (Picked r j) (sym (pick-next r j)) (at (next r j))

@@ -5,7 +5,7 @@ use Prim.Native.Nat.{ℕ}
 use Rattle.semantics.specs.Base.{Answer, refused, gives}
 use Rattle.semantics.specs.Task.{members}
 use Rattle.semantics.specs.System.{System, Waits, system, waits}
-use Rattle.semantics.specs.Run.{Run, passOver, runAfter, tally, pick, play, replayOn, plansOf}
+use Rattle.semantics.specs.Run.{Run, passOver, runAfter, tally, lacked, pick, play, replayOn, plansOf}
 use Rattle.semantics.specs.Dispatch.{Numbered, counts, playNumbered, playOn}
 use Rattle.semantics.specs.Demands.{RunFits}
 use Rattle.theory.proofs.Dispatch.{fits-list, fits-play}
@@ -36,15 +36,22 @@ module _ (S : System) (W : Waits S) (plans : List (List ℕ)) where
   count (gives r) k [] = k
   count (gives r) k (j ∷ xs) = count (runAfter (pick S W plans r j)) (tally k (pick S W plans r j)) xs
 
-  pub replay-append : (a : Answer (Run (S .State))) (k : ℕ) (xs ys : List ℕ)
-      → replayOn S W plans a k (xs ++ ys) ≡ replayOn S W plans (after a xs) (count a k xs) ys
-  unfolding replayOn after count
-  replay-append (refused e) k [] ys = refl
-  replay-append (refused e) k (j ∷ xs) [] = refl
-  replay-append (refused e) k (j ∷ xs) (i ∷ ys) = refl
-  replay-append (gives r) k [] ys = refl
-  replay-append (gives r) k (j ∷ xs) ys =
-      replay-append (runAfter (pick S W plans r j)) (tally k (pick S W plans r j)) xs ys
+  -- what the last pick lacked
+  pub lackedLast : Answer (Run (S .State)) → ℕ → List ℕ → ℕ
+  lackedLast (refused e) m [] = m
+  lackedLast (refused e) m (j ∷ xs) = m
+  lackedLast (gives r) m [] = m
+  lackedLast (gives r) m (j ∷ xs) = lackedLast (runAfter (pick S W plans r j)) (lacked (pick S W plans r j)) xs
+
+  pub replay-append : (a : Answer (Run (S .State))) (k m : ℕ) (xs ys : List ℕ)
+      → replayOn S W plans a k m (xs ++ ys) ≡ replayOn S W plans (after a xs) (count a k xs) (lackedLast a m xs) ys
+  unfolding replayOn after count lackedLast
+  replay-append (refused e) k m [] ys = refl
+  replay-append (refused e) k m (j ∷ xs) [] = refl
+  replay-append (refused e) k m (j ∷ xs) (i ∷ ys) = refl
+  replay-append (gives r) k m [] ys = refl
+  replay-append (gives r) k m (j ∷ xs) ys =
+      replay-append (runAfter (pick S W plans r j)) (tally k (pick S W plans r j)) (lacked (pick S W plans r j)) xs ys
 
 -- the dispatcher's list of picks, on a run that is not refused
 module _ (t plans ends : List ℕ) (d : Numbered ℕ) (f : RunFits t plans ends (d .run)) where

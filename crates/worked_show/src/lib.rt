@@ -117,7 +117,10 @@ fn show_decision(d: Decision) {
             end();
         }
         Decision::Wait => say(b" wait\n"),
-        Decision::Collision => say(b" collision\n"),
+        Decision::Collision(missing) => {
+            say_facts(b" collision, missing", missing);
+            end();
+        }
     }
 }
 
@@ -202,7 +205,9 @@ fn show_replay(law: u64, t: &[u64], plans: &[u16], ends: &[u64], picks: &[u8]) {
             show_outcome(outcome);
             let g = e.shared;
             say_facts(b", shared", g.0);
-            line(b", picks", e.picked as u64);
+            say_number(b", picks", e.picked as u64);
+            say_facts(b", missing", e.missing);
+            end();
         }
     }
 }
@@ -211,7 +216,7 @@ fn show_answer_of(a: Answer) {
     match a {
         Answer::Gives(r) => match r {
             Reply::Go => say(b" go"),
-            Reply::Collision => say(b" collision"),
+            Reply::Collision(missing) => say_facts(b" collision, missing", missing),
         },
         Answer::Refused(k) => say_number(b" refused", k),
     }
@@ -293,7 +298,10 @@ fn show_ask(t: &[u64], plans: &[u16], ends: &[u64], run: Numbered, member: u8) -
             match d {
                 Decision::Go(_) => say(b" ask go, commit"),
                 Decision::Wait => say(b" ask wait, commit"),
-                Decision::Collision => say(b" ask collision, commit"),
+                Decision::Collision(missing) => {
+                    say_facts(b" ask collision, missing", missing);
+                    say(b", commit");
+                }
             }
             show_commit(t, plans, ends, run, ticket)
         }
@@ -364,7 +372,10 @@ pub fn show_pick(law: u64, t: &[u64], plans: &[u16], ends: &[u64], member: u8) {
     match answer {
         Answer::Refused(k) => refused(k),
         Answer::Gives(r) => match r {
-            Reply::Collision => say(b" collision\n"),
+            Reply::Collision(missing) => {
+                say_facts(b" collision, missing", missing);
+                end();
+            }
             Reply::Go => {
                 let at = p.run;
                 let after = at.run;
@@ -376,12 +387,15 @@ pub fn show_pick(law: u64, t: &[u64], plans: &[u16], ends: &[u64], member: u8) {
     }
 }
 
-// The kind of a fault, its member, the picks done before it.
+// The kind of a fault, its member, the picks done before it, what a collision lacks.
 fn show_failing(f: Failing) {
     let fault = f.fault;
     let done = f.picked as u64;
     match fault {
-        Fault::Collision => say_number(b" collision", done),
+        Fault::Collision => {
+            say_number(b" collision", done);
+            say_facts(b", missing", f.missing);
+        }
         Fault::Deadlock => say_number(b" deadlock", done),
         Fault::Missed(i) => {
             say_number(b" missed", i as u64);

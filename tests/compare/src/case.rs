@@ -2,8 +2,9 @@
 
 use crate::lent::Lent;
 use reference::generate::{text, Cell};
-use reference::interface::ROW;
+use reference::interface::{mask_of, ROW};
 use std::fmt;
+use std::ops::Range;
 
 /// How a case came out, for the count of what was covered.
 #[derive(Clone, Copy, Debug, PartialEq, Eq, PartialOrd, Ord)]
@@ -16,6 +17,8 @@ pub enum Class {
 pub struct Checked {
     pub operation: &'static str,
     pub class: Class,
+    /// What a collision lacks; 0 where the answer is none.
+    pub missing: u128,
     /// The verdict was held against brute force too.
     pub brute: bool,
     /// Runs of a robust law were played to the finish.
@@ -45,6 +48,7 @@ pub struct Comparison {
     operation: &'static str,
     answers: [String; 2],
     differences: Vec<String>,
+    missing: u128,
     pub brute: bool,
     pub played: bool,
 }
@@ -55,6 +59,7 @@ impl Comparison {
             operation,
             answers: [String::new(), String::new()],
             differences: Vec::new(),
+            missing: 0,
             brute: false,
             played: false,
         }
@@ -69,6 +74,15 @@ impl Comparison {
         if !self.differences.is_empty() {
             let show = |number, out| format!("returns {number}, out {}", list(out));
             self.answers = [show(expected.0, expected.1), show(found, out.held())];
+        }
+    }
+
+    /// Notes what is expected to be missing, if anything is, from its place among an answer's
+    /// numbers.
+    pub fn lacks(&mut self, expected: (u64, &[u64]), place: Range<usize>) {
+        match (expected.0, expected.1.get(place).map_or(0, mask_of)) {
+            (0, missing) if missing != 0 => self.missing = missing,
+            _ => {}
         }
     }
 
@@ -123,6 +137,7 @@ impl Comparison {
         Checked {
             operation: self.operation,
             class,
+            missing: self.missing,
             brute: self.brute,
             played: self.played,
             failure,

@@ -48,7 +48,7 @@ fn main() -> ExitCode {
 fn asked(mut arguments: impl Iterator<Item = String>) -> Result<Asked, String> {
     let mut options = Options {
         seed: variable("LAWCHECK_SEED", 0)?.unwrap_or(1),
-        cases: variable("LAWCHECK_CASES", 1)?.unwrap_or(208_000),
+        cases: variable("LAWCHECK_CASES", 1)?.unwrap_or(215_000),
         threads: thread::available_parallelism().map_or(2, usize::from),
         stop: false,
     };

@@ -27,7 +27,6 @@ listed! {
         StepCollidesWhereItWaits,
         StepLongCopyTaken,
         StepShortCopyTaken,
-        StepTwoNumbersAsked,
         OutAfterRefusal,
         OutBeyondTheAnswer,
         SoloIndexFromOne,
@@ -59,7 +58,6 @@ listed! {
         SearchLastSweepUncounted,
         SearchOneSweep,
         JointCountsTheCollision,
-        JointFourNumbersAsked,
         JointAlwaysOpen,
         JointPicksAfterTheEndTaken,
         JointMissedHighest,
@@ -95,7 +93,6 @@ listed! {
         AskTicketCut,
         AskTicketOfAnother,
         AskTicketLostWhereWaiting,
-        AskFourNumbers,
         AskElevenWords,
         AskChangeCut,
         CommitStaleTaken,
@@ -117,7 +114,6 @@ listed! {
         CommitWraps,
         CommitStaysAtTheLast,
         CommitLastTooEarly,
-        CommitNoNumber,
         CommitElevenWords,
         CommitChangeCut,
         StartAbsentPlacesLeft,
@@ -175,15 +171,6 @@ fn on_words(run: &mut [u64], words: Vec<u64>, call: impl FnOnce(&mut [u64]) -> u
     let refusal = call(&mut words);
     if refusal == 0 {
         run.copy_from_slice(&words[..length]);
-    }
-    refusal
-}
-
-/// A call with more numbers than are lent, which get those of an answer that there is room for.
-fn in_more(out: &mut [u64], more: &mut [u64], call: impl FnOnce(&mut [u64]) -> u64) -> u64 {
-    let refusal = call(more);
-    if refusal == 0 {
-        out.copy_from_slice(&more[..out.len()]);
     }
     refusal
 }
@@ -345,11 +332,6 @@ impl Interface for Broken {
             StepShortCopyTaken if shared.len() == 1 => {
                 return Fast.step(task, action, &[shared[0], 0], out);
             }
-            StepTwoNumbersAsked if out.len() == 2 => {
-                return in_more(out, &mut [0; out_length::STEP], |out| {
-                    Fast.step(task, action, shared, out)
-                });
-            }
             _ => {}
         }
         let refusal = Fast.step(task, action, shared, out);
@@ -393,9 +375,12 @@ impl Interface for Broken {
         let (last, first) = (marks.last().copied(), table.first().copied());
         let (lent, kept) = (marks.to_vec(), out.get(2).copied());
         if *self == SearchTwoNumbersAsked && out.len() == 2 {
-            return in_more(out, &mut [0; out_length::SOLO_SEARCH], |out| {
-                Fast.solo_search(task, member, table, marks, out)
-            });
+            let mut more = [0; out_length::SOLO_SEARCH];
+            let refusal = Fast.solo_search(task, member, table, marks, &mut more);
+            if refusal == 0 {
+                out.copy_from_slice(&more[..2]);
+            }
+            return refusal;
         }
         let (rows, end) = (table.len() / MASK, table.last().copied());
         if *self == SearchMarksComparedWithWords && (rows..table.len()).contains(&marks.len()) {
@@ -435,11 +420,6 @@ impl Interface for Broken {
         picks: &[u8],
         out: &mut [u64],
     ) -> u64 {
-        if *self == JointFourNumbersAsked && out.len() == 4 {
-            return in_more(out, &mut [0; out_length::JOINT_REPLAY], |out| {
-                Fast.joint_replay(task, plans, ends, picks, out)
-            });
-        }
         let refusal = Fast.joint_replay(task, plans, ends, picks, out);
         match (self, refusal) {
             (JointCountsTheCollision, 0) if out[0] == 1 => out[2] += 1,
@@ -522,11 +502,6 @@ impl Interface for Broken {
         if let Some(mut words) = self.taken([AskElevenWords, AskChangeCut], run) {
             return Fast.ask(task, plans, ends, &mut words, member, out);
         }
-        if *self == AskFourNumbers && out.len() == 4 {
-            return in_more(out, &mut [0; out_length::ASK], |out| {
-                Fast.ask(task, plans, ends, run, member, out)
-            });
-        }
         let refusal = Fast.ask(task, plans, ends, run, member, out);
         if refusal == 0 {
             ASKED.set(Some(Ticket { member, change: run[CHANGE] as u32 }));
@@ -535,7 +510,7 @@ impl Interface for Broken {
             (AskCounts, 0) if run[CHANGE] < u64::from(LAST) => run[CHANGE] += 1,
             (AskWaitingCounted, 0) if out[0] == 1 => run[CHANGE] += 1,
             (AskMoves, 0) => {
-                Fast.pick(task, plans, ends, run, member, &mut [0]);
+                Fast.pick(task, plans, ends, run, member, &mut [0; out_length::PICK]);
             }
             (AskRefusedAtTheLast, 0) if run[CHANGE] == u64::from(LAST) => return 20,
             (AskRefusesWaiting, 0) if out[0] == 1 => return 13,
@@ -547,7 +522,8 @@ impl Interface for Broken {
             }
             (AskNoStepWaits, 13) if run[0] == 0 => {
                 let change = run[CHANGE];
-                out[..5].copy_from_slice(&[1, 0, 0, u64::from(member), change]);
+                let waits = [1, 0, 0, 0, 0, u64::from(member), change];
+                out[..out_length::ASK].copy_from_slice(&waits);
                 return 0;
             }
             (AskWaitIsCollision, 0) if out[0] == 1 => out[0] = 2,
@@ -557,11 +533,11 @@ impl Interface for Broken {
             (AskCopyWhereNone, 0) if out[0] != 0 => {
                 out[1..3].copy_from_slice(&run[SHARED..CHANGE]);
             }
-            (AskTicketAfterThePick, 0) => out[4] += 1,
-            (AskTicketOfTheStart, 0) => out[4] = 0,
-            (AskTicketCut, 0) => out[4] &= 0xffff,
-            (AskTicketOfAnother, 0) => out[3] ^= 1,
-            (AskTicketLostWhereWaiting, 0) if out[0] == 1 => out[3..5].fill(0),
+            (AskTicketAfterThePick, 0) => out[6] += 1,
+            (AskTicketOfTheStart, 0) => out[6] = 0,
+            (AskTicketCut, 0) => out[6] &= 0xffff,
+            (AskTicketOfAnother, 0) => out[5] ^= 1,
+            (AskTicketLostWhereWaiting, 0) if out[0] == 1 => out[5..7].fill(0),
             _ => {}
         }
         self.refused(refusal, out)
@@ -579,9 +555,6 @@ impl Interface for Broken {
         let before = run.to_vec();
         if let Some(words) = self.taken([CommitElevenWords, CommitChangeCut], run) {
             return on_words(run, words, |run| Fast.commit(task, plans, ends, run, ticket, out));
-        }
-        if *self == CommitNoNumber && out.is_empty() {
-            return Fast.commit(task, plans, ends, run, ticket, &mut [0]);
         }
         let refusal = Fast.commit(task, plans, ends, run, ticket, out);
         let last = ASKED.take();
@@ -622,7 +595,7 @@ impl Interface for Broken {
                 let mut asked = [0; out_length::ASK];
                 let refusal = Fast.ask(task, plans, ends, run, ticket.member, &mut asked);
                 if refusal == 0 {
-                    out[0] = 0;
+                    out[..out_length::COMMIT].fill(0);
                     return 0;
                 }
             }
@@ -767,7 +740,7 @@ impl Interface for Broken {
             Fast.verdict(task, local, marks, configurations, trail, plans, ends, picks, out);
         match (self, refusal) {
             (VerdictRobust, 0) if out[0] > 1 => {
-                out[..out_length::VERDICT].copy_from_slice(&[0, 0, 1]);
+                out[..out_length::VERDICT].copy_from_slice(&[0, 0, 1, 0, 0]);
                 plans.fill(0);
                 ends.fill(0);
                 picks.fill(0);

@@ -1,14 +1,17 @@
-//! Brute force alone finds verdicts whose fault is told after more picks than there have to be.
+//! Brute force alone finds verdicts whose fault is told after more picks than there have to be, or
+//! with another mask of what is missing.
 
 use compare::operations::verdict::beside_brute_force;
-use reference::fast::Fast;
+use reference::fast::{Fast, Judged};
 use reference::generate::families::tiny;
 use reference::interface::{out_length, Interface};
 use reference::random::Random;
 use reference::wrong;
+use reference::wrong::changed::Teller;
+use reference::wrong::masks::{self, Instead, Mask};
 
 /// The numbers of a verdict and the ends of its plans, with room for any small law.
-fn verdict(by: &impl Interface, words: &[u64]) -> ([u64; out_length::VERDICT], [u64; 8]) {
+fn verdict(by: &impl Interface, words: &[u64]) -> (Judged, [u64; 8]) {
     let (mut out, mut ends) = ([0; out_length::VERDICT], [0; 8]);
     let refusal = by.verdict(
         words,
@@ -45,4 +48,21 @@ fn a_fault_after_fewer_picks_is_found() {
     }
     assert!(conflicts >= 100, "{conflicts} conflicts");
     assert!(found.iter().all(|&count| count >= 5), "found: {found:?}");
+}
+
+/// Brute force finds a mask that no run lacks.
+#[test]
+fn another_mask_is_found() {
+    let twins = masks::of(Teller::Verdict);
+    let is = |mask: &&Mask| matches!(mask.instead, Instead::Preconditions | Instead::Lacking);
+    for mask in twins.iter().filter(is) {
+        let found = (0..15_000).filter(|&case| {
+            let words = tiny(&mut Random::new(31, case)).words();
+            let (told, ends) = verdict(&mask.twin(), &words);
+            let right = verdict(&Fast, &words).0 == told;
+            !right && beside_brute_force(&words, told, &ends).is_err()
+        });
+        let found = found.count();
+        assert!(found >= 10, "{:?}: {found}", mask.instead);
+    }
 }

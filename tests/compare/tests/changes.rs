@@ -1,8 +1,8 @@
 //! The generated runs and tickets stand at every edge of request F-4, by name: change numbers,
-//! tickets of another time, lengths of the run and of `out`, each with what is answered there.
+//! tickets of another time, lengths of the run, each with what is answered there. `missing.rs` has
+//! the lengths of `out`.
 
 use compare::operations::run::{handed_in, Handed};
-use compare::operations::step::random_out;
 use reference::generate::plans::ticket;
 use reference::interface::{out_length, CHANGE, LAST, RUN};
 use reference::paper::interface as paper;
@@ -45,15 +45,13 @@ fn runs_and_tickets_stand_at_every_edge() {
         let random = &mut Random::new(5, case);
         let Handed { words, bundle, run, member } = handed_in(random);
         let ticket = ticket(random, &run, member);
-        for (name, asked) in [("ask", out_length::ASK), ("commit", out_length::COMMIT)] {
-            meets(format!("{name}: out of {}", random_out(random, asked).len()));
-        }
         meets(format!("a run of {} words", run.len()));
         if run.len() < RUN {
             continue;
         }
         let (plans, ends) = (&bundle.plans, &bundle.ends);
-        let (mut told, mut picked, mut done) = ([9; out_length::ASK], [9], [9]);
+        let mut told = [9; out_length::ASK];
+        let [mut picked, mut done] = [[9; out_length::PICK]; 2];
         let ask = paper::ask(&words, plans, ends, &run, member, &mut told);
         let pick = paper::pick(&words, plans, ends, &mut run.clone(), member, &mut picked);
         let commit = paper::commit(&words, plans, ends, &mut run.clone(), ticket, &mut done);
@@ -81,9 +79,6 @@ fn runs_and_tickets_stand_at_every_edge() {
     }
 
     let mut asked: Vec<String> = Vec::new();
-    for (name, most) in [("ask", out_length::ASK), ("commit", out_length::COMMIT)] {
-        asked.extend((0..=most + 2).map(|length| format!("{name}: out of {length}")));
-    }
     asked.extend([0, 1, 10, 11, 12, 15].map(|length| format!("a run of {length} words")));
     asked.extend(
         ["4,294,967,296", "2^64 - 1", "another"]

@@ -22,6 +22,7 @@ listed! {
         GoalBitThenGoalRow,
         ActionBitThenOwner,
         WaitThenActionBit,
+        TaskThenStepOut,
         ActionThenTask,
         FactThenAction,
         EntryThenMember,
@@ -29,6 +30,7 @@ listed! {
         TaskThenSearchOut,
         MarksThenMember,
         FullThenMarks,
+        TaskThenJointOut,
         EntryThenEnds,
         EntryThenEarlierUnsolved,
         PickThenPlans,
@@ -38,6 +40,7 @@ listed! {
         MemberThenPlace,
         ImpossibleThenMember,
         ImpossibleThenPlace,
+        TaskThenPickOut,
         TaskThenChange,
         ChangesThenPlace,
         ChangesThenMember,
@@ -71,6 +74,7 @@ listed! {
         ImpossibleThenMemberOfPlay,
         ChangesThenMemberOfPlay,
         ChangesThenImpossibleOfPlay,
+        TaskThenVerdictOut,
         FullThenSlices,
         UnsolvableThenFull,
         TextThenWords,
@@ -135,6 +139,9 @@ impl Interface for Exchanged {
 
     fn step(&self, task: &[u64], action: u16, shared: &[u64], out: &mut [u64]) -> u64 {
         match (self, Fast.step(task, action, shared, out)) {
+            (TaskThenStepOut, 14) if shared.len() == MASK && Fast.task(task) != 0 => {
+                Fast.task(task)
+            }
             (ActionThenTask, 3..=6) if Fast.task(task) != 0 && action as u64 >= task[2] => 7,
             (FactThenAction, 7) if exceeds(task, shared) => 4,
             (_, refusal) => refusal,
@@ -194,6 +201,7 @@ impl Interface for Exchanged {
         let unknown = |&entry: &u16| entry as u64 >= task[2];
         let absent = |&member: &u8| member as u64 >= task[1];
         match (self, Fast.joint_replay(task, plans, ends, picks, out)) {
+            (TaskThenJointOut, 14) if Fast.task(task) != 0 => Fast.task(task),
             (EntryThenEnds, 11) if plans.iter().any(unknown) => 7,
             (EntryThenEarlierUnsolved, 12) if plans.iter().any(unknown) => 7,
             (PickThenPlans, 7 | 10..=12) if picks.iter().any(absent) => 8,
@@ -221,9 +229,11 @@ impl Interface for Exchanged {
         out: &mut [u64],
     ) -> u64 {
         let refusal = Fast.pick(task, plans, ends, run, member, out);
-        let whole = run.len() >= RUN && !out.is_empty();
-        if *self == TaskThenChange && refusal == 14 && whole && Fast.task(task) != 0 {
-            return Fast.task(task);
+        let whole = run.len() >= RUN && out.len() >= out_length::PICK;
+        match (self, refusal, Fast.task(task)) {
+            (TaskThenPickOut, 14, task @ 1..) if !no_run(run) => return task,
+            (TaskThenChange, 14, task @ 1..) if whole => return task,
+            _ => {}
         }
         if refusal == 0 || Fast.task(task) != 0 || no_run(run) {
             return refusal;
@@ -232,7 +242,7 @@ impl Interface for Exchanged {
         let without_shared = || {
             let mut run = run.to_vec();
             run[SHARED..CHANGE].fill(0);
-            Fast.pick(task, plans, ends, &mut run, member, &mut [0])
+            Fast.pick(task, plans, ends, &mut run, member, &mut [0; out_length::PICK])
         };
         let last = run[CHANGE] == u64::from(LAST);
         match (self, refusal) {
@@ -297,7 +307,9 @@ impl Interface for Exchanged {
         let refusal = Fast.commit(task, plans, ends, run, ticket, out);
         match (self, refusal, Fast.task(task)) {
             (CommitTaskThenOut, 14, task @ 1..) if !no_run(run) => return task,
-            (CommitTaskThenChange, 14, task @ 1..) if run.len() >= RUN && !out.is_empty() => {
+            (CommitTaskThenChange, 14, task @ 1..)
+                if run.len() >= RUN && out.len() >= out_length::COMMIT =>
+            {
                 return task;
             }
             (_, 1.., 0) if !no_run(run) => {}
@@ -307,7 +319,7 @@ impl Interface for Exchanged {
         let pick = |shared: &[u64]| {
             let mut run = run.to_vec();
             run[SHARED..CHANGE].copy_from_slice(shared);
-            Fast.pick(task, plans, ends, &mut run, ticket.member, &mut [0])
+            Fast.pick(task, plans, ends, &mut run, ticket.member, &mut [0; out_length::PICK])
         };
         let (shared, now) = (&run[SHARED..CHANGE], run[CHANGE]);
         let (stale, last) = (u64::from(ticket.change) != now, now == u64::from(LAST));
@@ -394,8 +406,10 @@ impl Interface for Exchanged {
         let lengths = (local.len(), configurations.len());
         let refusal =
             Fast.verdict(task, local, marks, configurations, trail, plans, ends, picks, out);
-        if Fast.task(task) != 0 {
-            return refusal;
+        match (self, refusal, Fast.task(task)) {
+            (TaskThenVerdictOut, 14, task @ 1..) => return task,
+            (_, _, 1..) => return refusal,
+            _ => {}
         }
         let members = task[1] as usize;
         let alone = |member: usize, rows: usize| {
@@ -407,7 +421,7 @@ impl Interface for Exchanged {
         match (self, refusal) {
             (FullThenSlices, 14) if (0..members).any(|member| alone(member, rows).0 == 9) => 9,
             (UnsolvableThenFull, 9) if (0..members).any(|member| alone(member, rows) == (0, 0)) => {
-                out[..3].copy_from_slice(&[1, 0, 0]);
+                out[..out_length::VERDICT].copy_from_slice(&[1, 0, 0, 0, 0]);
                 0
             }
             _ => refusal,

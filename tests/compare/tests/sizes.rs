@@ -8,7 +8,9 @@ mod listed;
 use compare::driver::{one, Summary};
 use compare::operations::sizes;
 use reference::fast::{copies, count_configurations, read_words, Copies, Fast, Task, DEAD};
-use reference::interface::{mask_of, Interface, Ticket, CHANGE, FACTS, LAST, MASK, ROW, SHARED};
+use reference::interface::{
+    mask_of, missing, out_length, Interface, Ticket, CHANGE, FACTS, LAST, MASK, ROW, SHARED,
+};
 use std::collections::BTreeMap;
 use std::sync::atomic::{AtomicU64, AtomicUsize, Ordering};
 use std::sync::Mutex;
@@ -115,6 +117,18 @@ listed! {
         PlayFact,
         VerdictLocalFact,
         VerdictFact,
+        StepMissing,
+        StepMissingFact,
+        JointMissing,
+        JointMissingFact,
+        PickMissing,
+        PickMissingFact,
+        AskMissing,
+        AskMissingFact,
+        CommitMissing,
+        CommitMissingFact,
+        VerdictMissing,
+        VerdictMissingFact,
     }
 }
 use Quantity::*;
@@ -128,7 +142,10 @@ impl Quantity {
             | VerdictMissedMember => 8,
             ReadDigits => 20,
             TaskFacts | StepFact | StartFact | AskFact | JointFact | PickFact | CommitFact
-            | PlayFact | SearchFact | VerdictLocalFact | VerdictFact => FACTS,
+            | PlayFact | SearchFact | VerdictLocalFact | VerdictFact | StepMissing
+            | StepMissingFact | JointMissing | JointMissingFact | PickMissing | PickMissingFact
+            | AskMissing | AskMissingFact | CommitMissing | CommitMissingFact | VerdictMissing
+            | VerdictMissingFact => FACTS,
             TaskActionRow | StepAction | SoloAction | VerdictActions | VerdictAction => 256,
             ReadRecords | ReadBadRecord => 265,
             ReadWords => ROW * 265,
@@ -199,6 +216,16 @@ impl Twin {
         if facts(mask) > 0 && self.at(quantity, facts(mask)) {
             lose_highest(mask);
         }
+    }
+
+    /// Takes the highest fact out of what is missing where that is wrong: by how many are missing,
+    /// or by the highest of them.
+    fn lacks(&self, [number, highest]: [Quantity; 2], mask: &mut [u64]) {
+        let missing = mask_of(mask).count_ones() as usize;
+        if missing > 0 && self.at(number, missing) {
+            lose_highest(mask);
+        }
+        self.without(highest, mask);
     }
 
     /// Whether the answer is wrong at this size.
@@ -301,6 +328,7 @@ impl Interface for Twin {
                 out[0] = (out[0] + 1) % 3;
             }
             self.without(StepFact, &mut out[1..3]);
+            self.lacks([StepMissing, StepMissingFact], &mut out[missing::STEP]);
         }
         refusal
     }
@@ -412,6 +440,8 @@ impl Interface for Twin {
                     out[2] -= 1;
                 }
                 self.without(JointFact, &mut out[3..5]);
+                let missing = &mut out[missing::JOINT_REPLAY];
+                self.lacks([JointMissing, JointMissingFact], missing);
             }
             7 | 10 => {
                 let known = |&entry: &u16| (entry as u64) < task[2];
@@ -428,7 +458,8 @@ impl Interface for Twin {
             12 if self.at(JointUnsolved, longest) => return 11,
             8 | 13 => {
                 let good = |&length: &usize| {
-                    Fast.joint_replay(task, plans, ends, &picks[..length], &mut [0; 5]) == 0
+                    let mut out = [0; out_length::JOINT_REPLAY];
+                    Fast.joint_replay(task, plans, ends, &picks[..length], &mut out) == 0
                 };
                 let bad = last_good(picks.len(), good);
                 if self.at(JointBadPick, bad) {
@@ -469,6 +500,7 @@ impl Interface for Twin {
                 if out[0] == 0 {
                     self.without(PickFact, &mut run[SHARED..CHANGE]);
                 }
+                self.lacks([PickMissing, PickMissingFact], &mut out[missing::PICK]);
             }
             13 if self.at(PickImpossible, run[place] as usize) => return 8,
             20 if self.at(PickChange, CHANGES) => return 13,
@@ -504,11 +536,12 @@ impl Interface for Twin {
                     out[0] = (out[0] + 1) % 3;
                 }
                 if self.at(AskMember, place) || self.at(AskEntries, plans.len()) {
-                    out[3] += 1;
+                    out[5] += 1;
                 }
-                if self.at(AskChange, out[4] as usize) {
-                    out[4] -= 1;
+                if self.at(AskChange, out[6] as usize) {
+                    out[6] -= 1;
                 }
+                self.lacks([AskMissing, AskMissingFact], &mut out[missing::ASK]);
             }
             13 if self.at(AskImpossible, run[place] as usize) => return 8,
             11 => {
@@ -551,6 +584,7 @@ impl Interface for Twin {
                 if out[0] == 0 {
                     self.without(CommitFact, &mut run[SHARED..CHANGE]);
                 }
+                self.lacks([CommitMissing, CommitMissingFact], &mut out[missing::COMMIT]);
             }
             13 if self.at(CommitImpossible, run[place] as usize) => return 8,
             19 => {
@@ -734,6 +768,7 @@ impl Interface for Twin {
         if out[0] == 4 && self.at(VerdictMissedMember, out[1] as usize + 1) {
             out[1] -= 1;
         }
+        self.lacks([VerdictMissing, VerdictMissingFact], &mut out[missing::VERDICT]);
         let kinds = [VerdictCollision, VerdictDeadlock, VerdictMissed];
         if self.at(kinds[out[0] as usize - 2], done) {
             out[..3].copy_from_slice(&[0, 0, count as u64]);

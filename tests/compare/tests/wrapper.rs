@@ -3,9 +3,9 @@
 
 use compare as _;
 use lawcheck::{
-    check, joint_replay, mask, mask_words, raw, read, solo_replay, solo_search, step, verdict,
-    Asked, Mask, Outcome, Picked, Refusal, Replay, Room, Run, SoloReplay, SoloSearch, Step, Ticket,
-    Verdict,
+    check, facts, joint_replay, mask, mask_words, raw, read, solo_replay, solo_search, step,
+    verdict, Asked, Mask, Outcome, Picked, Played, Refusal, Replay, Room, Run, SoloReplay,
+    SoloSearch, Step, Ticket, Verdict,
 };
 use reference::generate::text::of_words;
 use reference::law::of_rows;
@@ -87,7 +87,7 @@ fn steps_and_plans() {
     let l1 = laws::l1();
     assert_eq!(step(&l1, 0, 1), Ok(Step::Go(2)));
     assert_eq!(step(&l1, 0, 2), Ok(Step::Wait));
-    assert_eq!(step(&l1, 1, 1), Ok(Step::Collision));
+    assert_eq!(step(&l1, 1, 1), Ok(Step::Collision { missing: 2 }));
     assert_eq!(solo_replay(&l1, 0, &[0, 1]), Ok(SoloReplay::Solves));
     assert_eq!(solo_replay(&l1, 0, &[0, 0, 1]), Ok(SoloReplay::Breaks(1)));
     assert_eq!(solo_replay(&l1, 0, &[0]), Ok(SoloReplay::Short));
@@ -114,37 +114,54 @@ fn steps_and_plans() {
     assert_eq!(out, [9; 2]);
 }
 
-/// A law of 128 facts: member 0 takes fact 64 away and adds fact 127, member 1 needs fact 64.
+/// A law of 128 facts: member 0 takes facts 63 and 64 away and adds fact 127, member 1 needs facts
+/// 0, 63 and 64 and waits for the first.
 #[test]
 fn facts_of_the_high_word() {
-    let [first, high, last] = [0, 64, 127].map(|fact| 1 << fact);
+    let [first, low, high, last] = [0, 63, 64, 127].map(|fact| 1 << fact);
     let law = of_rows(&[
-        [128, 2, 2, first | high, 0],
+        [128, 2, 2, first | low | high, 0],
         [0, last, 0, 0, 0],
         [1, 0, 0, 0, 0],
-        [0, high, 0, last, high],
-        [1, first | high, 0, 0, 0],
+        [0, high, 0, last, low | high],
+        [1, first | low | high, first, 0, 0],
     ]);
+    let missing = low | high;
     assert_eq!(mask_words(first | last), [1, 1 << 63]);
     assert_eq!(mask([1, 1 << 63]), first | last);
     assert_eq!(step(&law, 0, first | high), Ok(Step::Go(first | last)));
-    assert_eq!(step(&law, 1, first | last), Ok(Step::Collision));
+    assert_eq!(step(&law, 1, first | last), Ok(Step::Collision { missing }));
+    assert_eq!(step(&law, 1, first | high), Ok(Step::Collision { missing: low }));
+    assert_eq!(step(&law, 1, last), Ok(Step::Wait));
     assert_eq!(step(&law, 1, Mask::MAX), Ok(Step::Go(Mask::MAX)));
     let (plans, ends) = ([0, 1], [1, 2]);
     let mut run = Run::start(&law).unwrap();
-    assert_eq!(run.shared(), first | high);
+    assert_eq!(run.shared(), first | low | high);
     let ticket = Ticket { member: 0, change: 0 };
     let asked = Asked { step: Step::Go(first | last), ticket };
     assert_eq!(run.ask(&law, &plans, &ends, 0), Ok(asked));
     assert_eq!(run.commit(&law, &plans, &ends, ticket), Ok(Picked::Go));
     assert_eq!((run.shared(), run.change()), (first | last, 1));
-    assert_eq!(run.pick(&law, &plans, &ends, 1), Ok(Picked::Collision));
+    let ticket = Ticket { member: 1, change: 1 };
+    let asked = Asked { step: Step::Collision { missing }, ticket };
+    assert_eq!(run.ask(&law, &plans, &ends, 1), Ok(asked));
+    let collision = Ok(Picked::Collision { missing });
+    assert_eq!(run.clone().commit(&law, &plans, &ends, ticket), collision);
+    assert_eq!(run.pick(&law, &plans, &ends, 1), collision);
     let replay = joint_replay(&law, &plans, &ends, &[0, 1]);
-    let told = Replay { outcome: Outcome::Collision, picks: 1, shared: first | last };
+    let told = Replay { outcome: Outcome::Collision { missing }, picks: 1, shared: first | last };
     assert_eq!(replay, Ok(told));
     let mut room = Room::new(2, 2, 4);
-    assert_eq!(verdict(&law, &mut room), Ok(Verdict::Collision { picks: 1 }));
+    assert_eq!(verdict(&law, &mut room), Ok(Verdict::Collision { picks: 1, missing }));
+    assert_eq!(facts(missing).collect::<Vec<_>>(), [63, 64]);
     assert_eq!(mask([room.local[2], room.local[3]]), first | last);
+}
+
+#[test]
+fn the_facts_of_a_mask_rise() {
+    assert_eq!(facts(0).count(), 0);
+    assert_eq!(facts(1 | 1 << 5 | 1 << 64 | 1 << 127).collect::<Vec<_>>(), [0, 5, 64, 127]);
+    assert!(facts(Mask::MAX).eq(0..128));
 }
 
 #[test]
@@ -166,7 +183,7 @@ fn a_run_is_picked_to_its_end() {
     let l2 = laws::l2();
     let mut run = Run::start(&l2).unwrap();
     assert_eq!(run.pick(&l2, &plans, &ends, 0), Ok(Picked::Go));
-    assert_eq!(run.pick(&l2, &plans, &ends, 1), Ok(Picked::Collision));
+    assert_eq!(run.pick(&l2, &plans, &ends, 1), Ok(Picked::Collision { missing: 1 }));
     assert!(run.collided());
     assert_eq!(run.change(), 2);
     assert_eq!(Run::of_words(*run.words()), Ok(run));
@@ -217,8 +234,10 @@ fn a_pick_is_asked_for_and_committed() {
     let mut run = Run::start(&l2).unwrap();
     assert_eq!(run.pick(&l2, &plans, &ends, 0), Ok(Picked::Go));
     let asked = run.ask(&l2, &plans, &ends, 1).unwrap();
-    assert_eq!(asked, Asked { step: Step::Collision, ticket: Ticket { member: 1, change: 1 } });
-    assert_eq!(run.commit(&l2, &plans, &ends, asked.ticket), Ok(Picked::Collision));
+    let ticket = Ticket { member: 1, change: 1 };
+    assert_eq!(asked, Asked { step: Step::Collision { missing: 1 }, ticket });
+    let collision = Ok(Picked::Collision { missing: 1 });
+    assert_eq!(run.commit(&l2, &plans, &ends, ticket), collision);
     assert_eq!((run.collided(), run.change()), (true, 2));
     assert_eq!(run.ask(&l2, &plans, &ends, 0), Err(Refusal::Pick));
 }
@@ -240,7 +259,7 @@ fn the_last_change_number() {
     let mut run = run_at(&l1, u64::from(last) - 1).unwrap();
     let (changes, pick) = (Err(Refusal::Changes), Err(Refusal::Pick));
     let answers = run.play(&l1, &plans, &ends, &[1, 1, 0, 9, 1]).unwrap();
-    assert_eq!(answers, [go, changes, pick, Err(Refusal::Member), changes]);
+    assert_eq!(answers, [Ok(Played::Go), changes, pick, Err(Refusal::Member), changes]);
     assert_eq!((run.change(), run.shared()), (last, 8));
     for above in [u64::from(last) + 1, u64::MAX] {
         assert_eq!(run_at(&l1, above), Err(Refusal::Short));
@@ -263,7 +282,7 @@ fn picks_are_played() {
     let (l2, plans, ends) = (laws::l2(), [0, 1, 2, 3], [2, 4]);
     let mut run = Run::start(&l2).unwrap();
     let answers = run.play(&l2, &plans, &ends, &[0, 9, 1, 0]).unwrap();
-    let (go, collision) = (Ok(Picked::Go), Ok(Picked::Collision));
+    let (go, collision) = (Ok(Played::Go), Ok(Played::Collision));
     assert_eq!(answers, [go, Err(Refusal::Member), collision, Err(Refusal::Pick)]);
     assert_eq!((run.collided(), run.change()), (true, 2));
     let before = run.clone();
@@ -285,7 +304,7 @@ fn verdicts_and_outcomes() {
     assert_eq!(outcome(&laws::l1(), &[0, 1, 2, 3], &[2, 4], &[]), Ok(Outcome::Open));
     for (law, expected) in [
         (laws::l1(), Verdict::Robust { configurations: 12 }),
-        (laws::l2(), Verdict::Collision { picks: 1 }),
+        (laws::l2(), Verdict::Collision { picks: 1, missing: 1 }),
         (laws::l3(), Verdict::Deadlock { picks: 3 }),
         (laws::l4(), Verdict::Unsolvable { member: 1 }),
         (laws::l7(), Verdict::Missed { member: 0, picks: 2 }),
@@ -298,7 +317,7 @@ fn verdicts_and_outcomes() {
         });
         let told = match found {
             Verdict::Robust { .. } | Verdict::Unsolvable { .. } => None,
-            Verdict::Collision { .. } => Some(Outcome::Collision),
+            Verdict::Collision { missing, .. } => Some(Outcome::Collision { missing }),
             Verdict::Deadlock { .. } => Some(Outcome::Deadlock),
             Verdict::Missed { member, .. } => Some(Outcome::Missed(member)),
         };

@@ -1,6 +1,7 @@
 //! The verdict file, and what has to stand in it.
 
 use reference::interface::MASK;
+use reference::paper::facts::Facts;
 use reference::paper::run::Outcome;
 use reference::paper::task::ROW;
 use reference::paper::text::{self, RECORDS};
@@ -27,6 +28,8 @@ pub fn configurations_room(members: usize) -> usize {
 pub struct File {
     pub kind: String,
     pub number: u64,
+    /// The facts that a collision lacks, rising.
+    pub missing: Vec<u64>,
     pub plans: Vec<Vec<u16>>,
     pub picks: Vec<u8>,
 }
@@ -41,6 +44,7 @@ impl File {
     pub fn bytes(&self) -> Vec<u8> {
         let mut lines =
             vec!["verdict,number".to_string(), format!("{},{}", self.kind, self.number)];
+        lines.extend(self.missing.iter().map(|fact| format!("missing,{fact}")));
         for (member, plan) in self.plans.iter().enumerate() {
             lines.push(format!("plan,{member}"));
             lines.extend(plan.iter().map(|action| format!("action,{action}")));
@@ -49,21 +53,20 @@ impl File {
         (lines.join("\r\n") + "\r\n").into_bytes()
     }
 
-    /// A file with a conflict, whose plans stand in one slice.
-    pub fn of_conflict(
-        kind: &str,
-        number: u64,
-        slice: &[u16],
-        ends: &[u64],
-        picks: Vec<u8>,
-    ) -> File {
+    /// The file with a conflict, whose plans stand in one slice.
+    pub fn with_conflict(self, slice: &[u16], ends: &[u64], picks: Vec<u8>) -> File {
         let mut plans = Vec::new();
         let mut begin = 0;
         for &end in ends {
             plans.push(slice[begin..end as usize].to_vec());
             begin = end as usize;
         }
-        File { kind: kind.to_string(), number, plans, picks }
+        File { plans, picks, ..self }
+    }
+
+    /// The file with the facts that are missing.
+    pub fn with_missing(self, missing: &Facts) -> File {
+        File { missing: missing.numbers().collect(), ..self }
     }
 }
 
@@ -108,19 +111,20 @@ fn with_tables(task: &[u64]) -> (Result<Class, Refusal>, File) {
             picks: &mut picks,
         },
     );
-    let file = match answer {
-        Err(refusal) => File::short("refused", refusal),
-        Ok(Class::Unsolvable(member)) => File::short("unsolvable", member as u64),
-        Ok(Class::Robust(count)) => File::short("robust", count as u64),
-        Ok(Class::NotRobust(_, outcome, done)) => {
-            let (kind, number) = match outcome {
-                Outcome::Collision => ("collision", done),
-                Outcome::Deadlock => ("deadlock", done),
+    let file = match &answer {
+        Err(refusal) => File::short("refused", *refusal),
+        Ok(Class::Unsolvable(member)) => File::short("unsolvable", *member as u64),
+        Ok(Class::Robust(count)) => File::short("robust", *count as u64),
+        Ok(Class::NotRobust(_, outcome, done, missing)) => {
+            let (kind, number) = match *outcome {
+                Outcome::Collision => ("collision", *done),
+                Outcome::Deadlock => ("deadlock", *done),
                 Outcome::Missed(member) => ("missed", member),
                 other => unreachable!("{other:?} is no fault"),
             };
-            picks.truncate(done + usize::from(outcome == Outcome::Collision));
-            File::of_conflict(kind, number as u64, &plans, &ends, picks)
+            picks.truncate(done + usize::from(*outcome == Outcome::Collision));
+            let file = File::short(kind, number as u64).with_missing(missing);
+            file.with_conflict(&plans, &ends, picks)
         }
     };
     (answer, file)

@@ -33,7 +33,7 @@ const ANSWERS: [&str; 13] = [
     "refused 9",
     "refused 15",
 ];
-const SIZES: [(&str, u64); 9] = [
+const SIZES: [(&str, u64); 11] = [
     ("bytes", LONGEST),
     ("records", 265),
     ("number", u64::MAX),
@@ -43,6 +43,8 @@ const SIZES: [(&str, u64); 9] = [
     ("configurations", 2048),
     ("plan steps", 1022),
     ("picks", 1023),
+    ("missing facts", 128),
+    ("highest missing fact", 127),
 ];
 const TABLES: [(&str, usize); 4] = [
     ("copies full", 1),
@@ -73,6 +75,8 @@ impl Reached {
         self.size("actions", judged.task[2]);
         self.size("plan steps", file.plans.iter().map(Vec::len).max().unwrap_or(0) as u64);
         self.size("picks", file.picks.len() as u64);
+        self.size("missing facts", file.missing.len() as u64);
+        self.size("highest missing fact", file.missing.last().copied().unwrap_or(0));
         let members = task.members();
         let room = copies_room(members);
         let found: Vec<Option<usize>> = (0..members)

@@ -2,6 +2,7 @@
 
 use crate::file::{configurations_room, copies_room};
 use reference::generate::families::widened;
+use reference::generate::sizes::{lacking, sizes};
 use reference::generate::Law;
 use reference::interface::FACTS;
 use reference::random::Random;
@@ -19,30 +20,31 @@ pub enum Size {
     Picks { bits: usize, waits: bool },
     /// The last member has no plan.
     Unsolvable { members: usize },
+    /// A collision for want of so many facts.
+    Missing { facts: usize },
     /// 265 records, with every mask full.
     Records,
 }
 
 /// One of each size: every table a row short of full, full, and a row too short.
 pub fn all() -> Vec<Size> {
-    let mut sizes = vec![Size::Records];
+    let mut all = vec![Size::Records];
     for members in 2..=8 {
         let room = configurations_room(members);
-        sizes.extend(
-            [room - 1, room, room + 1].map(|count| Size::Configurations { members, count }),
-        );
+        all.extend([room - 1, room, room + 1].map(|count| Size::Configurations { members, count }));
     }
     for members in 1..=8 {
         let room = copies_room(members);
         for member in BTreeSet::from([0, members - 1]) {
-            sizes.extend([room, room + 1].map(|count| Size::Copies { members, member, count }));
+            all.extend([room, room + 1].map(|count| Size::Copies { members, member, count }));
         }
     }
     for bits in 1..=10 {
-        sizes.extend([false, true].map(|waits| Size::Picks { bits, waits }));
+        all.extend([false, true].map(|waits| Size::Picks { bits, waits }));
     }
-    sizes.extend((1..=8).map(|members| Size::Unsolvable { members }));
-    sizes
+    all.extend((1..=8).map(|members| Size::Unsolvable { members }));
+    all.extend(sizes(FACTS).into_iter().map(|facts| Size::Missing { facts }));
+    all
 }
 
 impl Size {
@@ -55,6 +57,7 @@ impl Size {
             Size::Copies { members, member, count } => copies(members, member, count),
             Size::Picks { bits, waits } => picks(bits, waits),
             Size::Unsolvable { members } => unsolvable(members),
+            Size::Missing { facts } => lacking(random, facts),
             Size::Records => return records(),
         };
         let (members, actions) = (law.goals.len(), law.actions.len());

@@ -5,8 +5,11 @@ use program::file::{configurations_room, copies_room, judge, File, Judged, CONFI
 use program::reached::Reached;
 use program::texts::{fixed, made, LONGEST};
 use reference::fast::{copies, Fast, Task};
-use reference::interface::{out_length, Interface, MASK, ROW, ROWS};
+use reference::interface::{missing, out_length, Interface, MASK, ROW, ROWS};
+use reference::paper::facts::Facts;
 use reference::paper::verdict::Class;
+use reference::wrong::changed::Teller;
+use reference::wrong::masks::{self, Instead, Mask};
 use reference::wrong::{self, Wrong};
 use Broken::*;
 
@@ -50,9 +53,21 @@ enum Broken {
     PlansExchanged,
     MissedAsDeadlock,
     NumberOff(u64),
+    // The lines of what is missing.
+    MissingFalling,
+    MissingFromOne,
+    MissingWithout64,
+    MissingLost(usize),
+    MissingTwice,
+    MissingOnOneLine,
+    MissingAsMask,
+    MissingLineFeedAlone,
+    MissingFirst,
+    MissingAfterThePlans,
+    MissingLast,
 }
 
-const ALL: [Broken; 62] = [
+const ALL: [Broken; 78] = [
     LeadingZeroTaken,
     LineFeedTaken,
     LastLineEndAsked,
@@ -115,6 +130,22 @@ const ALL: [Broken; 62] = [
     NumberOff(1),
     NumberOff(16),
     NumberOff(256),
+    MissingFalling,
+    MissingFromOne,
+    MissingWithout64,
+    MissingLost(1),
+    MissingLost(2),
+    MissingLost(8),
+    MissingLost(64),
+    MissingLost(65),
+    MissingLost(128),
+    MissingTwice,
+    MissingOnOneLine,
+    MissingAsMask,
+    MissingLineFeedAlone,
+    MissingFirst,
+    MissingAfterThePlans,
+    MissingLast,
 ];
 
 /// The file of the fast twin, or of one that chooses another conflict.
@@ -146,18 +177,19 @@ fn verdict(by: &impl Interface, task: &[u64]) -> File {
         &mut out,
     );
     let (kind, number, played) = match (refusal, out) {
-        (0, [0, _, count]) => ("robust", count, 0),
-        (0, [1, member, _]) => ("unsolvable", member, 0),
-        (0, [2, _, done]) => ("collision", done, done + 1),
-        (0, [3, _, done]) => ("deadlock", done, done),
-        (0, [_, member, done]) => ("missed", member, done),
+        (0, [0, _, count, ..]) => ("robust", count, 0),
+        (0, [1, member, ..]) => ("unsolvable", member, 0),
+        (0, [2, _, done, ..]) => ("collision", done, done + 1),
+        (0, [3, _, done, ..]) => ("deadlock", done, done),
+        (0, [_, member, done, ..]) => ("missed", member, done),
         (refusal, _) => ("refused", refusal, 0),
     };
+    let file = File::short(kind, number).with_missing(&Facts::of_words(&out[missing::VERDICT]));
     if ["collision", "deadlock", "missed"].contains(&kind) {
         picks.truncate(played as usize);
-        return File::of_conflict(kind, number, &plans, &ends, picks);
+        return file.with_conflict(&plans, &ends, picks);
     }
-    File::short(kind, number)
+    file
 }
 
 /// A text with other fields in its records, where each has so many.
@@ -189,7 +221,35 @@ impl Broken {
             LineAfterTheEnd => bytes.extend(b"\r\n"),
             _ => {}
         }
-        bytes
+        if file.missing.is_empty() {
+            return bytes;
+        }
+        self.misplace(String::from_utf8(bytes).expect("lines of text"), &file).into_bytes()
+    }
+
+    /// Puts the lines of what is missing elsewhere, or in another form.
+    fn misplace(self, text: String, file: &File) -> String {
+        let missing: String =
+            file.missing.iter().map(|fact| format!("missing,{fact}\r\n")).collect();
+        let rest = text.replacen(&missing, "", 1);
+        let before_picks = rest.find("pick,").expect("a collision has picks");
+        match self {
+            MissingOnOneLine => {
+                let facts: Vec<String> = file.missing.iter().map(u64::to_string).collect();
+                text.replacen(&missing, &format!("missing,{}\r\n", facts.join(",")), 1)
+            }
+            MissingAsMask => {
+                let [low, high] = Facts::of_numbers(file.missing.iter().copied()).words();
+                text.replacen(&missing, &format!("missing,{low}\r\nmissing,{high}\r\n"), 1)
+            }
+            MissingLineFeedAlone => text.replacen(&missing, &missing.replace('\r', ""), 1),
+            MissingFirst => missing + &rest,
+            MissingAfterThePlans => {
+                rest[..before_picks].to_string() + &missing + &rest[before_picks..]
+            }
+            MissingLast => rest + &missing,
+            _ => text,
+        }
     }
 
     /// The text that it takes for this one.
@@ -289,6 +349,13 @@ impl Broken {
             PlansExchanged if !file.plans.is_empty() => file.plans.rotate_left(1),
             MissedAsDeadlock if kind == "missed" => file.kind = "deadlock".into(),
             NumberOff(least) if !file.plans.is_empty() && number >= least => file.number -= 1,
+            MissingFalling => file.missing.reverse(),
+            MissingFromOne => file.missing.iter_mut().for_each(|fact| *fact += 1),
+            MissingWithout64 => file.missing.iter_mut().for_each(|fact| *fact %= 64),
+            MissingLost(place) if file.missing.len() >= place => {
+                file.missing.remove(place - 1);
+            }
+            MissingTwice => file.missing.extend(file.missing.last().copied()),
             _ => {}
         }
     }
@@ -298,8 +365,11 @@ impl Broken {
 fn the_twin_passes_and_every_broken_program_is_found() {
     let mut unnoticed = ALL.to_vec();
     let mut others = wrong::ALL.to_vec();
+    // Those that differ in what they print.
+    let mut masks = masks::of(Teller::Verdict);
+    masks.retain(|mask| !matches!(mask.instead, Instead::OutOf(_) | Instead::LeftElsewhere));
     let mut reached = Reached::default();
-    for number in 0..fixed() + 1500 {
+    for number in 0..fixed() + 4000 {
         let text = made(7, number);
         let (judged, file) = (judge(&text), answer(&Fast, &text));
         judged.check(&file.bytes()).expect("the twin passes");
@@ -309,8 +379,11 @@ fn the_twin_passes_and_every_broken_program_is_found() {
             let same = |other: &Wrong| judged.check(&answer(other, &text).bytes()).is_ok();
             others.retain(same);
         }
+        let same = |mask: &Mask| judged.check(&answer(&mask.twin(), &text).bytes()).is_ok();
+        masks.retain(same);
     }
     assert_eq!(reached.missing(), Vec::<String>::new());
     assert_eq!(unnoticed, []);
+    assert_eq!(masks, []);
     assert_eq!(others.iter().map(|other| other.name).collect::<Vec<_>>(), Vec::<&str>::new());
 }

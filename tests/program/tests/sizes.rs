@@ -41,6 +41,10 @@ fn each_law_has_its_size() {
                     tables(&task).iter().map(|table| table.live(task.initial)).collect();
                 assert_eq!(live.iter().position(|live| !live), Some(members - 1), "{size:?}");
             }
+            Size::Missing { facts } => {
+                let judged = judge(of_words(&words).as_bytes());
+                assert_eq!(judged.file.missing.len(), facts, "{size:?}");
+            }
             Size::Records => assert_eq!(words.len(), 9 * 265),
         }
     }
@@ -53,6 +57,7 @@ fn a_conflict_is_expected_line_by_line() {
     let lines = [
         "verdict,number",
         "collision,1",
+        "missing,0",
         "plan,0",
         "action,0",
         "action,1",
@@ -69,6 +74,10 @@ fn a_conflict_is_expected_line_by_line() {
         ("collision,1", "collision,01"),
         ("collision,1", "collision,0"),
         ("collision,1", "deadlock,1"),
+        ("missing,0\r\n", ""),
+        ("missing,0", "missing,1"),
+        ("missing,0", "missing,0\r\nmissing,0"),
+        ("missing,0\r\nplan,0\r\n", "plan,0\r\nmissing,0\r\n"),
         ("plan,0", "plan,1"),
         ("action,1", "action,0"),
         ("action,3\r\n", ""),

@@ -45,17 +45,30 @@ pub fn no_run(run: &[u64]) -> bool {
 
 /// How many numbers an answer writes to the front of `out`.
 pub mod out_length {
-    pub const STEP: usize = 1 + super::MASK;
+    pub const STEP: usize = 1 + 2 * super::MASK;
     pub const SOLO_REPLAY: usize = 2;
     pub const SOLO_SEARCH: usize = 3;
-    pub const JOINT_REPLAY: usize = 3 + super::MASK;
-    pub const PICK: usize = 1;
-    pub const ASK: usize = 3 + super::MASK;
-    pub const COMMIT: usize = 1;
-    pub const VERDICT: usize = 3;
+    pub const JOINT_REPLAY: usize = 3 + 2 * super::MASK;
+    pub const PICK: usize = 1 + super::MASK;
+    pub const ASK: usize = STEP + 2;
+    pub const COMMIT: usize = PICK;
+    pub const VERDICT: usize = 3 + super::MASK;
     pub const READ: usize = 1;
     pub const PDDL_READ: usize = 1;
     pub const PDDL_WRITE: usize = 2;
+}
+
+/// Where the missing preconditions of a collision stand among an answer's numbers (request F-6).
+pub mod missing {
+    use super::{out_length, MASK};
+    use std::ops::Range;
+
+    pub const STEP: Range<usize> = 1 + MASK..out_length::STEP;
+    pub const JOINT_REPLAY: Range<usize> = 3 + MASK..out_length::JOINT_REPLAY;
+    pub const PICK: Range<usize> = 1..out_length::PICK;
+    pub const ASK: Range<usize> = STEP;
+    pub const COMMIT: Range<usize> = PICK;
+    pub const VERDICT: Range<usize> = 3..out_length::VERDICT;
 }
 
 /// An implementation of the C interface. Each operation gives the refusal's number, or 0 for an

@@ -8,7 +8,8 @@
 //! * [`generate`]: laws, plans, picks and texts from fixed seeds, valid and damaged.
 //! * [`law`]: a law in parts, and its layout in words.
 //! * [`laws`]: L1 to L12 of the paper.
-//! * [`wrong`]: verdicts that choose another conflict, which the tests have to find.
+//! * [`wrong`]: verdicts that choose another conflict and operations that tell another mask of what
+//!   is missing, which the tests have to find.
 #![forbid(unsafe_code)]
 
 pub mod brute;

@@ -1,18 +1,22 @@
 //! Implementations that choose another conflict: the fast twin with one thing wrong in each. The
-//! tables are right, and most of these conflicts replay as told.
+//! tables are right, and most of these conflicts replay as told. [`masks`] has those that tell
+//! another mask of what is missing.
+
+pub mod changed;
+pub mod masks;
 
 use crate::fast::verdict::{
     moved, verdict_by, Configuration, Kind, Lent, Listing, Manner, Next, Right, Shown, SHARED,
 };
-use crate::fast::{joint_replay, Copies, Task, Twin, DEAD};
-use crate::interface::mask_of;
+use crate::fast::{joint_replay, Copies, Judged, Task, Twin, DEAD};
+use crate::interface::{mask_of, missing};
 use std::collections::{HashMap, HashSet};
 
 /// The fast twin with another verdict.
 #[derive(Clone, Copy)]
 pub struct Wrong {
     pub name: &'static str,
-    verdict: fn(&[u64], &mut Lent) -> Result<[u64; 3], u64>,
+    verdict: fn(&[u64], &mut Lent) -> Result<Judged, u64>,
 }
 
 /// Manners, with the list of all of them and of other verdicts.
@@ -36,7 +40,7 @@ macro_rules! wrong {
 }
 
 wrong! {
-    [colliding_pick_lost, picks_exchanged, highest_missed]
+    [colliding_pick_lost, picks_exchanged, highest_missed, highest_lacks]
 
     /// The last row that shows a fault.
     LastRow {
@@ -305,32 +309,40 @@ fn lowest_steps(
 }
 
 /// The colliding pick is not told.
-fn colliding_pick_lost(task: &[u64], lent: &mut Lent) -> Result<[u64; 3], u64> {
+fn colliding_pick_lost(task: &[u64], lent: &mut Lent) -> Result<Judged, u64> {
     let answer = verdict_by::<Right>(task, lent)?;
-    if let [2, _, done] = answer {
+    if let [2, _, done, ..] = answer {
         lent.picks[done as usize] = 0;
     }
     Ok(answer)
 }
 
 /// The highest member that misses its goal is told.
-fn highest_missed(task: &[u64], lent: &mut Lent) -> Result<[u64; 3], u64> {
+fn highest_missed(task: &[u64], lent: &mut Lent) -> Result<Judged, u64> {
     let answer = verdict_by::<Right>(task, lent)?;
-    let [4, _, done] = answer else {
+    let [4, _, done, ..] = answer else {
         return Ok(answer);
     };
     let (plans, ends, picks) = conflict(task, lent, answer);
     let shared = mask_of(&joint_replay(task, plans, ends, picks)?[3..]);
     let goals = Task::check(task)?.goals;
     let missed = |&member: &u64| goals[member as usize] & !shared != 0;
-    Ok([4, (0..task[1]).rfind(missed).unwrap_or(0), done])
+    Ok([4, (0..task[1]).rfind(missed).unwrap_or(0), done, 0, 0])
+}
+
+/// What the highest colliding action of the row lacks is told.
+fn highest_lacks(task: &[u64], lent: &mut Lent) -> Result<Judged, u64> {
+    let highest = verdict_by::<HighestCollides>(task, lent)?;
+    let mut answer = verdict_by::<Right>(task, lent)?;
+    answer[missing::VERDICT].copy_from_slice(&highest[missing::VERDICT]);
+    Ok(answer)
 }
 
 /// The plans, ends and picks of a conflict.
 fn conflict<'a>(
     task: &[u64],
     lent: &'a mut Lent,
-    [kind, _, done]: [u64; 3],
+    [kind, _, done, ..]: Judged,
 ) -> (&'a [u16], &'a [u64], &'a mut [u8]) {
     let ends = &lent.ends[..task[1] as usize];
     let plans = &lent.plans[..ends.last().map_or(0, |&end| end as usize)];
@@ -338,9 +350,9 @@ fn conflict<'a>(
 }
 
 /// Two neighbouring picks are exchanged where the replay ends as told all the same.
-fn picks_exchanged(task: &[u64], lent: &mut Lent) -> Result<[u64; 3], u64> {
+fn picks_exchanged(task: &[u64], lent: &mut Lent) -> Result<Judged, u64> {
     let answer = verdict_by::<Right>(task, lent)?;
-    let [2..=4, _, done] = answer else {
+    let [2..=4, _, done, ..] = answer else {
         return Ok(answer);
     };
     let (plans, ends, picks) = conflict(task, lent, answer);
@@ -357,7 +369,7 @@ fn picks_exchanged(task: &[u64], lent: &mut Lent) -> Result<[u64; 3], u64> {
 }
 
 impl Twin for Wrong {
-    fn judge(&self, task: &[u64], lent: &mut Lent) -> Result<[u64; 3], u64> {
+    fn judge(&self, task: &[u64], lent: &mut Lent) -> Result<Judged, u64> {
         (self.verdict)(task, lent)
     }
 }

@@ -2,7 +2,8 @@
 //! lists of up to four calls on four laws at four change numbers.
 
 use reference::fast::{Fast, Task};
-use reference::interface::{out_length, Interface, Ticket, CHANGE, LAST, RUN, SHARED};
+use reference::interface::out_length::PICK;
+use reference::interface::{missing, out_length, Interface, Ticket, CHANGE, LAST, RUN, SHARED};
 use reference::laws::{l1, l2, l7};
 use reference::paper::interface as paper;
 
@@ -41,11 +42,11 @@ fn call(law: &[u64], plans: &[u16], ends: &[u64], run: &mut [u64], call: Call) -
         Commit(member, change) => {
             let ticket = Ticket { member, change };
             let plain = paper::commit(law, plans, ends, &mut plain, ticket, &mut one);
-            ([plain, Fast.commit(law, plans, ends, &mut fast, ticket, &mut other)], 1)
+            ([plain, Fast.commit(law, plans, ends, &mut fast, ticket, &mut other)], PICK)
         }
         Pick(member) => {
             let plain = paper::pick(law, plans, ends, &mut plain, member, &mut one);
-            ([plain, Fast.pick(law, plans, ends, &mut fast, member, &mut other)], 1)
+            ([plain, Fast.pick(law, plans, ends, &mut fast, member, &mut other)], PICK)
         }
     };
     assert_eq!((refusals[0], one, &plain), (refusals[1], other, &fast), "{call:?} on {run:?}");
@@ -67,6 +68,11 @@ fn start(law: &[u64], change: u32) -> Vec<u64> {
     run
 }
 
+/// The numbers of a pick that goes.
+fn went() -> Vec<u64> {
+    vec![0; PICK]
+}
+
 /// These calls in turn on the law's run at its start, each with what it gives.
 fn gives(law: &[u64], change: u32, calls: &[(Call, Given)]) -> Vec<u64> {
     let mut run = start(law, change);
@@ -83,22 +89,22 @@ fn a_step_is_told_before_it_is_done() {
         &l1(),
         0,
         &[
-            (Ask(0), Ok(vec![0, 2, 0, 0, 0])),
-            (Ask(1), Ok(vec![0, 8, 0, 1, 0])),
+            (Ask(0), Ok(vec![0, 2, 0, 0, 0, 0, 0])),
+            (Ask(1), Ok(vec![0, 8, 0, 0, 0, 1, 0])),
             (Ask(2), Err(8)),
             (Commit(2, 5), Err(8)),
             (Commit(1, 1), Err(19)),
-            (Commit(1, 0), Ok(vec![0])),
+            (Commit(1, 0), Ok(went())),
             (Commit(1, 0), Err(19)),
             (Commit(0, 0), Err(19)),
-            (Ask(0), Ok(vec![1, 0, 0, 0, 1])),
+            (Ask(0), Ok(vec![1, 0, 0, 0, 0, 0, 1])),
             (Commit(0, 1), Err(13)),
-            (Pick(1), Ok(vec![0])),
+            (Pick(1), Ok(went())),
             (Ask(1), Err(13)),
             (Commit(1, 2), Err(13)),
             (Commit(1, 1), Err(19)),
-            (Ask(0), Ok(vec![0, 18, 0, 0, 2])),
-            (Commit(0, 2), Ok(vec![0])),
+            (Ask(0), Ok(vec![0, 18, 0, 0, 0, 0, 2])),
+            (Commit(0, 2), Ok(went())),
         ],
     );
     assert_eq!(run, [0, 1, 2, 0, 0, 0, 0, 0, 0, 18, 0, 3]);
@@ -110,9 +116,9 @@ fn a_collision_is_told_and_counts() {
         &l2(),
         5,
         &[
-            (Pick(0), Ok(vec![0])),
-            (Ask(1), Ok(vec![2, 0, 0, 1, 6])),
-            (Commit(1, 6), Ok(vec![1])),
+            (Pick(0), Ok(went())),
+            (Ask(1), Ok(vec![2, 0, 0, 1, 0, 1, 6])),
+            (Commit(1, 6), Ok(vec![1, 1, 0])),
             (Ask(0), Err(13)),
             (Commit(0, 7), Err(13)),
             (Commit(0, 6), Err(19)),
@@ -134,13 +140,13 @@ fn the_shared_copy_is_two_words() {
         &high_l1(),
         0,
         &[
-            (Ask(0), Ok(vec![0, 0, 2, 0, 0])),
-            (Commit(1, 0), Ok(vec![0])),
-            (Ask(0), Ok(vec![1, 0, 0, 0, 1])),
+            (Ask(0), Ok(vec![0, 0, 2, 0, 0, 0, 0])),
+            (Commit(1, 0), Ok(went())),
+            (Ask(0), Ok(vec![1, 0, 0, 0, 0, 0, 1])),
             (Pick(0), Err(13)),
-            (Pick(1), Ok(vec![0])),
-            (Ask(0), Ok(vec![0, 0, 18, 0, 2])),
-            (Commit(0, 2), Ok(vec![0])),
+            (Pick(1), Ok(went())),
+            (Ask(0), Ok(vec![0, 0, 18, 0, 0, 0, 2])),
+            (Commit(0, 2), Ok(went())),
         ],
     );
     assert_eq!(run, [0, 1, 2, 0, 0, 0, 0, 0, 0, 0, 18, 3]);
@@ -152,9 +158,9 @@ fn the_last_change_number_takes_no_pick() {
         &l1(),
         LAST - 1,
         &[
-            (Commit(0, LAST - 1), Ok(vec![0])),
-            (Ask(0), Ok(vec![0, 5, 0, 0, u64::from(LAST)])),
-            (Ask(1), Ok(vec![1, 0, 0, 1, u64::from(LAST)])),
+            (Commit(0, LAST - 1), Ok(went())),
+            (Ask(0), Ok(vec![0, 5, 0, 0, 0, 0, u64::from(LAST)])),
+            (Ask(1), Ok(vec![1, 0, 0, 0, 0, 1, u64::from(LAST)])),
             (Commit(0, LAST), Err(20)),
             (Commit(0, 0), Err(19)),
             (Commit(1, LAST), Err(13)),
@@ -166,7 +172,7 @@ fn the_last_change_number_takes_no_pick() {
     );
     assert_eq!((run[SHARED], run[CHANGE]), (2, u64::from(LAST)));
     // What would collide there is refused too, and closes nothing.
-    let run = gives(&l2(), LAST - 1, &[(Pick(0), Ok(vec![0])), (Commit(1, LAST), Err(20))]);
+    let run = gives(&l2(), LAST - 1, &[(Pick(0), Ok(went())), (Commit(1, LAST), Err(20))]);
     assert_eq!(run[0], 0);
 }
 
@@ -236,8 +242,8 @@ fn all_lists(
             let asked = asked.expect("what is committed can be asked for");
             let goes = asked[0] == 0;
             let shared = if goes { &asked[1..3] } else { &run[SHARED..CHANGE] };
-            let told = (if goes { 0 } else { 1 }, shared);
-            assert_eq!((answer[0], &after[SHARED..CHANGE]), told, "{this:?} on {run:?}");
+            let told = [&[if goes { 0 } else { 1 }], &asked[missing::ASK]].concat();
+            assert_eq!((answer, &after[SHARED..CHANGE]), (&told, shared), "{this:?} on {run:?}");
         }
         let counts = !matches!(this, Ask(_)) && found.is_ok();
         if counts {

@@ -1,11 +1,12 @@
 //! L1 to L12 of the paper, the programs that pass at first sight, and laws that tell the parts of
 //! request F-2 from each other. Conflicts were worked out by hand from the words.
 
-use reference::fast::{Fast, Task};
-use reference::interface::Interface;
+use reference::fast::{Fast, Judged, Task};
+use reference::interface::{out_length, Interface};
 use reference::law::{of_rows, old_rows};
 use reference::laws::*;
 use reference::paper::conflict::Conflict;
+use reference::paper::facts::Facts;
 use reference::paper::interface::verdict_numbers;
 use reference::paper::run::{joint_replay, Outcome};
 use reference::paper::task::check;
@@ -48,8 +49,8 @@ impl Slices {
         }
     }
 
-    fn fast(&mut self, task: &[u64]) -> Result<[u64; 3], u64> {
-        let mut out = [9; 3];
+    fn fast(&mut self, task: &[u64]) -> Result<Judged, u64> {
+        let mut out = [9; out_length::VERDICT];
         let refusal = Fast.verdict(
             task,
             &mut self.local,
@@ -73,13 +74,13 @@ fn class(task: &[u64]) -> Result<Class, u64> {
     verdict(task, &mut Slices::of_words(4096, 8192).lent())
 }
 
-fn fast(task: &[u64]) -> Result<[u64; 3], u64> {
+fn fast(task: &[u64]) -> Result<Judged, u64> {
     Slices::of_words(4096, 8192).fast(task)
 }
 
 /// Both implementations give this conflict: numbers, a plan for each member, and picks. It replays
 /// to its numbers, and zeros come after it.
-fn gives(task: &[u64], numbers: [u64; 3], plans: &[&[u16]], picks: &[u8]) {
+fn gives(task: &[u64], numbers: Judged, plans: &[&[u16]], picks: &[u8]) {
     let mut plain = Slices::of_words(128, 256);
     let class = verdict(task, &mut plain.lent()).expect("a verdict");
     assert_eq!(verdict_numbers(&class), numbers);
@@ -99,7 +100,8 @@ fn gives(task: &[u64], numbers: [u64; 3], plans: &[&[u16]], picks: &[u8]) {
     }
     let replay = joint_replay(task, &list, &ends, picks).expect("a replay");
     let (kind, member) = paper::interface::outcome_numbers(replay.outcome);
-    assert_eq!([kind + 1, member, replay.done as u64], numbers);
+    let [low, high] = replay.missing.words();
+    assert_eq!([kind + 1, member, replay.done as u64, low, high], numbers);
 }
 
 fn replays(task: &[u64], plans: &[u16], ends: &[u64], picks: &[u8]) -> (Outcome, usize, [u64; 2]) {
@@ -204,7 +206,7 @@ fn the_verdict_does_not_depend_on_the_places_of_facts() {
     {
         let words = law.at(128, &places).words();
         assert_eq!(class(&words), Ok(Class::Robust(12)));
-        assert_eq!(fast(&words), Ok([0, 0, 12]));
+        assert_eq!(fast(&words), Ok([0, 0, 12, 0, 0]));
         for (local, configurations, answer) in
             [(16, 72, Ok(12)), (16, 71, Err(9)), (15, 72, Err(9))]
         {
@@ -217,45 +219,45 @@ fn the_verdict_does_not_depend_on_the_places_of_facts() {
 #[test]
 fn l1_is_robust() {
     assert_eq!(class(&l1()), Ok(Class::Robust(12)));
-    assert_eq!(fast(&l1()), Ok([0, 0, 12]));
+    assert_eq!(fast(&l1()), Ok([0, 0, 12, 0, 0]));
 }
 
 #[test]
 fn l2_collides() {
-    gives(&l2(), [2, 0, 1], &[&[0, 1], &[2, 3]], &[0, 1]);
+    gives(&l2(), [2, 0, 1, 1, 0], &[&[0, 1], &[2, 3]], &[0, 1]);
 }
 
 #[test]
 fn l3_deadlocks() {
-    gives(&l3(), [3, 0, 3], &[&[0, 1, 0], &[2, 3]], &[0, 0, 0]);
+    gives(&l3(), [3, 0, 3, 0, 0], &[&[0, 1, 0], &[2, 3]], &[0, 0, 0]);
 }
 
 #[test]
 fn l4_is_unsolvable() {
     assert_eq!(class(&l4()), Ok(Class::Unsolvable(1)));
-    assert_eq!(fast(&l4()), Ok([1, 1, 0]));
+    assert_eq!(fast(&l4()), Ok([1, 1, 0, 0, 0]));
 }
 
 #[test]
 fn l5_and_l6_have_no_action() {
     assert_eq!(class(&l5()), Ok(Class::Robust(1)));
-    assert_eq!(fast(&l5()), Ok([0, 0, 1]));
+    assert_eq!(fast(&l5()), Ok([0, 0, 1, 0, 0]));
     assert_eq!(class(&l6()), Ok(Class::Unsolvable(0)));
-    assert_eq!(fast(&l6()), Ok([1, 0, 0]));
+    assert_eq!(fast(&l6()), Ok([1, 0, 0, 0, 0]));
 }
 
 #[test]
 fn l7_misses_in_one_order() {
-    gives(&l7(), [4, 0, 2], &[&[0], &[1]], &[0, 1]);
+    gives(&l7(), [4, 0, 2, 0, 0], &[&[0], &[1]], &[0, 1]);
     assert_eq!(replays(&l7(), &[0, 1], &[1, 2], &[0, 1]), (Outcome::Missed(0), 2, [2, 0]));
     assert_eq!(replays(&l7(), &[0, 1], &[1, 2], &[1, 0]), (Outcome::Success, 2, [3, 0]));
-    assert_eq!(class(&l7()), Ok(Class::NotRobust(5, Outcome::Missed(0), 2)));
+    assert_eq!(class(&l7()), Ok(Class::NotRobust(5, Outcome::Missed(0), 2, Facts::default())));
 }
 
 #[test]
 fn l8_is_robust() {
     assert_eq!(class(&l8()), Ok(Class::Robust(1)));
-    assert_eq!(fast(&l8()), Ok([0, 0, 1]));
+    assert_eq!(fast(&l8()), Ok([0, 0, 1, 0, 0]));
 }
 
 #[test]
@@ -269,7 +271,7 @@ fn l9_and_l10_are_the_edges_of_l1() {
             assert!(slices.trail.iter().all(|&word| word == 0));
         }
         let mut slices = Slices::of_words(local, configurations);
-        assert_eq!(slices.fast(&l1()), answer.map(|count| [0, 0, count as u64]));
+        assert_eq!(slices.fast(&l1()), answer.map(|count| [0, 0, count as u64, 0, 0]));
     }
 }
 
@@ -299,13 +301,14 @@ fn conflicts_of_the_laws_are_as_asked() {
     let faults =
         [(l2(), Outcome::Collision), (l3(), Outcome::Deadlock), (l7(), Outcome::Missed(0))];
     for (law, outcome) in faults {
-        let Ok(Class::NotRobust(listed, told, _)) = class(&law) else { panic!("a fault") };
+        let Ok(Class::NotRobust(listed, told, ..)) = class(&law) else { panic!("a fault") };
         assert_eq!(told, outcome);
         let mut slices = Slices::of_words(128, 256);
-        let [_, _, done] = slices.fast(&law).unwrap();
+        let [_, _, done, low, high] = slices.fast(&law).unwrap();
         let conflict = Conflict {
             outcome,
             done,
+            missing: [low, high],
             plans: &slices.plans,
             ends: &slices.ends,
             picks: &slices.picks,
@@ -314,6 +317,8 @@ fn conflicts_of_the_laws_are_as_asked() {
         assert!(conflict.check(&law, 2, 0).is_err());
         assert!(Conflict { done: done + 1, ..conflict }.check(&law, 2, listed).is_err());
         assert!(Conflict { outcome: Outcome::Open, ..conflict }.check(&law, 2, listed).is_err());
+        let other = [low, high ^ 1];
+        assert!(Conflict { missing: other, ..conflict }.check(&law, 2, listed).is_err());
     }
 }
 
@@ -329,12 +334,12 @@ fn a_collision_comes_before_a_deadlock() {
         [1, 2, 0, 8, 0],
         [0, 0, 0, 4, 3],
     ];
-    gives(&of_rows(&law), [2, 0, 1], &[&[2], &[1]], &[0, 1]);
+    gives(&of_rows(&law), [2, 0, 1, 2, 0], &[&[2], &[1]], &[0, 1]);
     // Without the colliding action it is the deadlock.
     let mut law = law.to_vec();
     law.remove(4);
     law[0][2] = 2;
-    gives(&of_rows(&law), [3, 0, 1], &[&[1], &[0]], &[0]);
+    gives(&of_rows(&law), [3, 0, 1, 0, 0], &[&[1], &[0]], &[0]);
 }
 
 /// After member 0's step actions 1 and 3 of member 2 collide, and action 2 of member 1.
@@ -350,7 +355,7 @@ fn the_lowest_colliding_action_is_told_of_all_members() {
         [1, 1, 0, 4, 0],
         [2, 1, 0, 8, 0],
     ];
-    gives(&of_rows(&law), [2, 0, 1], &[&[0], &[2], &[1]], &[0, 2]);
+    gives(&of_rows(&law), [2, 0, 1, 1, 0], &[&[0], &[2], &[1]], &[0, 2]);
 }
 
 /// After member 0's step members 1 and 2 can wait for fact 0. Member 1 has its goal and ends;
@@ -367,7 +372,7 @@ fn a_member_with_its_goal_ends_where_another_lacks_its_own() {
         [0, 0, 0, 2, 1],
         [2, 1, 1, 4, 0],
     ];
-    gives(&of_rows(&law), [3, 0, 1], &[&[2], &[], &[1]], &[0]);
+    gives(&of_rows(&law), [3, 0, 1, 0, 0], &[&[2], &[], &[1]], &[0]);
 }
 
 /// After member 0's step all have their goals, and members 1 and 2 can wait for fact 0. The lower
@@ -384,16 +389,16 @@ fn one_member_goes_on_where_all_have_their_goals() {
         [1, 0, 0, 4, 0],
         [0, 0, 0, 2, 1],
     ];
-    gives(&of_rows(&law), [3, 0, 1], &[&[3], &[1, 2], &[]], &[0]);
+    gives(&of_rows(&law), [3, 0, 1, 0, 0], &[&[3], &[1, 2], &[]], &[0]);
     // Member 2 misses its goal there too, and deadlock comes first.
     law[3][1] = 1;
-    gives(&of_rows(&law), [3, 0, 1], &[&[3], &[1, 2], &[]], &[0]);
+    gives(&of_rows(&law), [3, 0, 1, 0, 0], &[&[3], &[1, 2], &[]], &[0]);
     // Without the waiting actions it is missed, after the same pick.
     law[4][2] = 0;
     law[4][1] = 0;
     law[5][2] = 0;
     law[5][1] = 0;
-    gives(&of_rows(&law), [4, 2, 1], &[&[3], &[], &[]], &[0]);
+    gives(&of_rows(&law), [4, 2, 1, 0, 0], &[&[3], &[], &[]], &[0]);
 }
 
 /// Two orders of two steps lead to one row, which action 0 of member 1 and then action 1 of member
@@ -408,7 +413,7 @@ fn the_moves_that_first_listed_a_row_are_told() {
         [1, 0, 0, 4, 1],
         [0, 0, 0, 2, 0],
     ];
-    gives(&of_rows(&law), [4, 2, 2], &[&[1], &[0], &[]], &[1, 0]);
+    gives(&of_rows(&law), [4, 2, 2, 0, 0], &[&[1], &[0], &[]], &[1, 0]);
     assert_eq!(replays(&of_rows(&law), &[1, 0], &[1, 2, 2], &[0, 1]).0, Outcome::Missed(2));
 }
 
@@ -430,20 +435,26 @@ fn the_lowest_shortest_completion_is_told() {
         [1, 32, 0, 8, 32],
         [1, 5, 0, 128, 4],
     ];
-    gives(&of_rows(&law), [2, 0, 1], &[&[0], &[8, 3, 6]], &[0, 1]);
+    gives(&of_rows(&law), [2, 0, 1, 1, 0], &[&[0], &[8, 3, 6]], &[0, 1]);
 }
 
 #[test]
 fn brute_force_on_the_laws() {
     let found = |law: &[u64]| brute::outcomes(&check(law).unwrap(), 3);
-    assert_eq!(found(&l1()), Some([(Outcome::Success, 4)].into()));
-    assert_eq!(found(&l2()), Some([(Outcome::Success, 4), (Outcome::Collision, 1)].into()));
-    assert_eq!(found(&l3()), Some([(Outcome::Success, 4), (Outcome::Deadlock, 3)].into()));
+    let none = Facts::default();
+    let outcome = |outcome: Outcome, done: usize| ((outcome, none.clone()), done);
+    let token = Facts::of_numbers([0].into_iter());
+    let success = outcome(Outcome::Success, 4);
+    assert_eq!(found(&l1()), Some([success.clone()].into()));
+    let collision = ((Outcome::Collision, token), 1);
+    assert_eq!(found(&l2()), Some([success.clone(), collision].into()));
+    assert_eq!(found(&l3()), Some([success, outcome(Outcome::Deadlock, 3)].into()));
     assert_eq!(found(&l4()), None);
-    assert_eq!(found(&l5()), Some([(Outcome::Success, 0)].into()));
+    assert_eq!(found(&l5()), Some([outcome(Outcome::Success, 0)].into()));
     assert_eq!(found(&l6()), None);
-    assert_eq!(found(&l7()), Some([(Outcome::Success, 2), (Outcome::Missed(0), 2)].into()));
-    assert_eq!(found(&l8()), Some([(Outcome::Success, 0)].into()));
+    let missed = [outcome(Outcome::Success, 2), outcome(Outcome::Missed(0), 2)];
+    assert_eq!(found(&l7()), Some(missed.into()));
+    assert_eq!(found(&l8()), Some([outcome(Outcome::Success, 0)].into()));
     let fewest = |law: &[u64]| brute::fewest(&found(law).unwrap());
     assert_eq!([l1(), l2(), l3(), l7()].map(|law| fewest(&law)), [None, Some(1), Some(3), Some(2)]);
 }

@@ -1,11 +1,14 @@
--- `capi_numbers::given_numbers` meets its contract. Assumes nothing.
-use Rattle.capi_numbers.proofs.Verdicts.{given-unsolvable, given-failing, given-robust}
+-- `capi_numbers::given_numbers` meets its contract: one law for each verdict. Assumes nothing.
 use borrow.Author.Needs.{needs}
+use Rattle.capi_numbers.proofs.Verdicts.{given-unsolvable, given-failing, given-robust}
 use Rattle.capi_numbers.proofs.given_numbers.Statement.{statement}
 use Rattle.capi_numbers.proofs.given_numbers.Tie as tie
 
 enum-known-v : tie.Need-enum-known-v
 enum-known-v c = search needs
+
+none-requires : tie.Need-none-requires
+none-requires c κs = search needs
 
 verdict-numbers-requires : tie.Need-verdict-numbers-requires
 verdict-numbers-requires c κs = search needs
@@ -18,6 +21,9 @@ failing-numbers-requires c κs = search needs
 
 enum-known-v-3 : tie.Need-enum-known-v-3
 enum-known-v-3 c = search needs
+
+none-requires-2 : tie.Need-none-requires-2
+none-requires-2 c κs = search needs
 
 verdict-numbers-requires-2 : tie.Need-verdict-numbers-requires-2
 verdict-numbers-requires-2 c κs = search needs
@@ -41,18 +47,4 @@ returns-3 : tie.Need-returns-3
 returns-3 c = search given-robust
 
 pub given-numbers-spec : {M : Type 1} → statement M
-given-numbers-spec =
-    tie.close
-    (tie.spec
-    enum-known-v
-    verdict-numbers-requires
-    enum-known-v-2
-    failing-numbers-requires
-    enum-known-v-3
-    verdict-numbers-requires-2
-    same-length
-    returns
-    same-length-2
-    returns-2
-    same-length-3
-    returns-3)
+given-numbers-spec = tie.close (tie.spec enum-known-v none-requires verdict-numbers-requires enum-known-v-2 failing-numbers-requires enum-known-v-3 none-requires-2 verdict-numbers-requires-2 same-length returns same-length-2 returns-2 same-length-3 returns-3)

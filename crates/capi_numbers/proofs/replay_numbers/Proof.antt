@@ -13,6 +13,15 @@ array-read-low c = search needs
 array-read-high : tie.Need-array-read-high
 array-read-high c = search needs
 
+words-requires-2 : tie.Need-words-requires-2
+words-requires-2 c κs = search needs
+
+array-read-lacks : tie.Need-array-read-lacks
+array-read-lacks c = search needs
+
+array-read-more : tie.Need-array-read-more
+array-read-more c = search needs
+
 enum-told : tie.Need-enum-told
 enum-told c = search needs
 
@@ -47,20 +56,4 @@ returns-5 : tie.Need-returns-5
 returns-5 c = search still-open
 
 pub replay-numbers-spec : {M : Type 1} → statement M
-replay-numbers-spec =
-    tie.close
-    (tie.spec
-    words-requires
-    array-read-low
-    array-read-high
-    enum-told
-    enum-known-o
-    enum-told-2
-    enum-told-3
-    enum-known-f
-    enum-told-4
-    returns
-    returns-2
-    returns-3
-    returns-4
-    returns-5)
+replay-numbers-spec = tie.close (tie.spec words-requires array-read-low array-read-high words-requires-2 array-read-lacks array-read-more enum-told enum-known-o enum-told-2 enum-told-3 enum-known-f enum-told-4 returns returns-2 returns-3 returns-4 returns-5)

@@ -17,9 +17,6 @@ slice-aggregate-put c = search needs
 put-requires : tie.Need-put-requires
 put-requires c κs = search needs
 
-slice-aggregate-put-2 : tie.Need-slice-aggregate-put-2
-slice-aggregate-put-2 c = search needs
-
 put-requires-2 : tie.Need-put-requires-2
 put-requires-2 c κs = search needs
 
@@ -47,7 +44,6 @@ done-spec =
     words-of-requires
     slice-aggregate-put
     put-requires
-    slice-aggregate-put-2
     put-requires-2
     same-length
     same-length-2

@@ -10,8 +10,11 @@ enum-known-a c = search needs
 enum-known-a-2 : tie.Need-enum-known-a-2
 enum-known-a-2 c = search needs
 
-reply-number-requires : tie.Need-reply-number-requires
-reply-number-requires c κs = search needs
+reply-numbers-requires : tie.Need-reply-numbers-requires
+reply-numbers-requires c κs = search needs
+
+slice-aggregate-done : tie.Need-slice-aggregate-done
+slice-aggregate-done c = search needs
 
 done-requires : tie.Need-done-requires
 done-requires c κs = search needs
@@ -29,14 +32,4 @@ returns-2 : tie.Need-returns-2
 returns-2 c = (search done-call, search done-words)
 
 pub tell-dispatched-spec : {M : Type 1} → statement M
-tell-dispatched-spec =
-    tie.close
-    (tie.spec
-    enum-known-a
-    enum-known-a-2
-    reply-number-requires
-    done-requires
-    returns
-    same-length
-    same-length-2
-    returns-2)
+tell-dispatched-spec = tie.close (tie.spec enum-known-a enum-known-a-2 reply-numbers-requires slice-aggregate-done done-requires returns same-length same-length-2 returns-2)

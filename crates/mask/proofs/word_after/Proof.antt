@@ -1,17 +1,14 @@
--- `mask::word_after` meets its contract: the code is the definition, and what `s` and `del` have in common is within
--- `s`. Assumes nothing.
+-- `mask::word_after` meets its contract: the code is the definition. Assumes nothing.
 use borrow.Author.Needs.{needs}
-use lib.Bits.{and-le-l}
-use Rattle.semantics.specs.Mask.{after}
+use Rattle.mask.proofs.Halves.{after-word}
 use Rattle.mask.proofs.word_after.Statement.{statement}
 use Rattle.mask.proofs.word_after.Tie as tie
 
-sub-rest : tie.Need-sub-rest
-sub-rest c = search and-le-l
+word-without-requires : tie.Need-word-without-requires
+word-without-requires c κs = search needs
 
 returns : tie.Need-returns
-unfolding after
-returns c = search needs
+returns c = search (needs, after-word)
 
 pub word-after-spec : {M : Type 1} → statement M
-word-after-spec = tie.close (tie.spec sub-rest returns)
+word-after-spec = tie.close (tie.spec word-without-requires returns)

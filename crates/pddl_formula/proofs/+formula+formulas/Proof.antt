@@ -19,7 +19,7 @@ use Rattle.pddl_formula.proofs.+formula+formulas.Lts-formulas as formul
 use Rattle.pddl_formula.proofs.literal.Reads as literal-reads
 use Rattle.pddl_formula.proofs.negation.Reads as negation-reads
 use Rattle.pddl_formula.proofs.outside.Reads as outside-reads
-use Rattle.pddl_words.proofs.none.Reads as none-reads
+use Rattle.mask.proofs.none.Reads as none-reads
 use Rattle.pddl_words.proofs.union.Reads as union-reads
 use Rattle.pddl_name.proofs.same.Reads as same-reads
 use Rattle.pddl_token.proofs.next_token.Reads as next-token-reads

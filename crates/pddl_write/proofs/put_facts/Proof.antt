@@ -2,8 +2,8 @@
 use Prim.Native.Nat.{_-_}
 use native.Mathlib.Omega.{arith}
 use borrow.Author.Needs.{needs}
-use Rattle.semantics.specs.Mask.{has}
-use Rattle.semantics.specs.PddlWrite.{each, standing}
+use Rattle.semantics.specs.Mask.{has, standing}
+use Rattle.semantics.specs.PddlWrite.{each}
 use Rattle.mask.specs.Number.{number}
 use Rattle.pddl_write.specs.Inner.Put.{between}
 use Rattle.pddl_write.proofs.Laws.{Stage, stage-begin, stage-put, stage-end, left, each-at, each-none}

@@ -7,11 +7,8 @@ use Rattle.run_dispatch.proofs.start.Tie as tie
 check-requires : tie.Need-check-requires
 check-requires c κs = search needs
 
-slice-aggregate-load : tie.Need-slice-aggregate-load
-slice-aggregate-load c = search needs
-
-load-requires : tie.Need-load-requires
-load-requires c κs = search needs
+none-requires : tie.Need-none-requires
+none-requires c κs = search needs
 
 returns : tie.Need-returns
 returns c = search start-refused
@@ -24,4 +21,4 @@ returns-2 c = search start-given
 
 pub start-spec : {M : Type 1} → statement M
 start-spec =
-    tie.close (tie.spec check-requires slice-aggregate-load load-requires returns start-requires returns-2)
+    tie.close (tie.spec check-requires none-requires returns start-requires returns-2)

@@ -17,8 +17,8 @@ module _ (t plans ends : List ℕ) where
   abbrev pub outcomeIn : Run ℕ → Outcome
   outcomeIn r = outcome (system t) (waits t) (plansIn t plans ends) r
 
-  abbrev pub replayOnIn : Answer (Run ℕ) → ℕ → List ℕ → Answer (Replay ℕ)
-  replayOnIn a k picks = replayOn (system t) (waits t) (plansIn t plans ends) a k picks
+  abbrev pub replayOnIn : Answer (Run ℕ) → ℕ → ℕ → List ℕ → Answer (Replay ℕ)
+  replayOnIn a k m picks = replayOn (system t) (waits t) (plansIn t plans ends) a k m picks
 
   abbrev pub replayIn : List ℕ → Answer (Replay ℕ)
   replayIn picks = replay (system t) (waits t) (plansIn t plans ends) picks

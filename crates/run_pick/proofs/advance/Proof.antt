@@ -19,8 +19,8 @@ enum-told c = search needs
 refuse-requires : tie.Need-refuse-requires
 refuse-requires c κs = search needs
 
-enum-told-2 : tie.Need-enum-told-2
-enum-told-2 c = search needs
+enum-known-d-2 : tie.Need-enum-known-d-2
+enum-known-d-2 c = search needs
 
 returns : tie.Need-returns
 returns c = search (needs, way-goes)
@@ -40,7 +40,7 @@ advance-spec =
     enum-known-d
     enum-told
     refuse-requires
-    enum-told-2
+    enum-known-d-2
     returns
     returns-2
     returns-3)

@@ -10,6 +10,9 @@ pre-requires c κs = search needs
 within-requires : tie.Need-within-requires
 within-requires c κs = search needs
 
+without-requires : tie.Need-without-requires
+without-requires c κs = search needs
+
 returns : tie.Need-returns
 returns c = search act-lacks
 
@@ -31,6 +34,7 @@ act-spec =
     (tie.spec
     pre-requires
     within-requires
+    without-requires
     returns
     add-requires
     del-requires

@@ -16,8 +16,8 @@ act-requires c κs = search needs
 enum-known-r : tie.Need-enum-known-r
 enum-known-r c = search needs
 
-enum-told : tie.Need-enum-told
-enum-told c = search needs
+enum-known-r-2 : tie.Need-enum-known-r-2
+enum-known-r-2 c = search needs
 
 returns-2 : tie.Need-returns-2
 returns-2 c = search goes-there
@@ -28,4 +28,4 @@ returns-3 c = search collides-there
 pub decide-spec : {M : Type 1} → statement M
 decide-spec =
     tie.close
-    (tie.spec waits-requires returns act-requires enum-known-r enum-told returns-2 returns-3)
+    (tie.spec waits-requires returns act-requires enum-known-r enum-known-r-2 returns-2 returns-3)

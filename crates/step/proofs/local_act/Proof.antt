@@ -10,8 +10,8 @@ act-requires c κs = search needs
 enum-known-r : tie.Need-enum-known-r
 enum-known-r c = search needs
 
-enum-told : tie.Need-enum-told
-enum-told c = search needs
+enum-known-r-2 : tie.Need-enum-known-r-2
+enum-known-r-2 c = search needs
 
 returns : tie.Need-returns
 returns c = search local-goes
@@ -20,4 +20,4 @@ returns-2 : tie.Need-returns-2
 returns-2 c = search local-lacks
 
 pub local-act-spec : {M : Type 1} → statement M
-local-act-spec = tie.close (tie.spec act-requires enum-known-r enum-told returns returns-2)
+local-act-spec = tie.close (tie.spec act-requires enum-known-r enum-known-r-2 returns returns-2)

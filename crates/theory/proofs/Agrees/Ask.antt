@@ -6,18 +6,18 @@ use Prim.Native.Nat.{ℕ, _<_}
 use native.Mathlib.Omega.{arith}
 use Rattle.semantics.specs.Base.{Answer, gives}
 use Rattle.semantics.specs.Task.{members}
-use Rattle.semantics.specs.System.{result, system, waits}
+use Rattle.semantics.specs.System.{result, missing, system, waits}
 use Rattle.semantics.specs.Step.{Decision}
 use Rattle.semantics.specs.Run.{not-yet, stepped, plansOf, runRefusal}
 use Rattle.semantics.specs.Dispatch.{Numbered, Asked, ticketed, nextStep, askOn}
-use Rattle.semantics.specs.Model.{World, Acts, Collides, Waiting}
-use Rattle.semantics.specs.Demands.{setting, worldIn, RunFits, ticketOf, AskAgrees}
+use Rattle.semantics.specs.Model.{World, Acts, Collides, Lacks, Waiting}
+use Rattle.semantics.specs.Demands.{factsOf, setting, worldIn, RunFits, ticketOf, AskAgrees}
 use Rattle.theory.proofs.Lists.{apart}
 use Rattle.theory.proofs.Refusals.{refused-gives, gives-inj, unless-gives}
 use Rattle.theory.proofs.Picks.{closed-open, Decided, decided, Next, next}
-use Rattle.theory.proofs.Agrees.Pick.{its-acts, its-collides, its-waits, fits-passes, passes-fits}
+use Rattle.theory.proofs.Agrees.Pick.{its-acts, its-collides, its-lacks, its-waits, fits-passes, passes-fits}
 use Rattle.theory.proofs.Agrees.Step.{same-facts}
-use Rattle.theory.proofs.Agrees.Worlds.{moves-agent, moves-stays, waiting-left, acts-collides, acts-unique}
+use Rattle.theory.proofs.Agrees.Worlds.{moves-agent, moves-stays, waiting-left, acts-collides, acts-unique, lacks-unique}
 
 module _ (t plans ends : List ℕ) (d : Numbered ℕ) (i : ℕ) where
   abbrev P : List (List ℕ)
@@ -64,7 +64,7 @@ module _ (t plans ends : List ℕ) (d : Numbered ℕ) (i : ℕ) where
               e ∙ ap (λ (x : ℕ). gives (record { decision = Decision.go x; ticket = ticketOf d i })) s,
         );
         waits = (λ q. let s = tells-one e q in absurd (apart (cc)), λ k. absurd (moves (inl (k .2))));
-        collides = (
+        collides = λ m. (
           λ q. let s = tells-one e q in absurd (apart (cc)),
           λ k. absurd (acts-collides (setting t) W i act (k .1)),
         );
@@ -85,7 +85,7 @@ module _ (t plans ends : List ℕ) (d : Numbered ℕ) (i : ℕ) where
               (moves-stays (setting t) W i (inr (worldIn t plans ends (stepped (d .run) i g), k .1)) (inl w)),
         );
         waits = (λ q. (c, h, w), λ k. e);
-        collides = (
+        collides = λ m. (
           λ q. let s = tells-one e q in absurd (apart (cc)),
           λ k. absurd (moves-stays (setting t) W i (inl (k .1)) (inl w)),
         );
@@ -96,9 +96,9 @@ module _ (t plans ends : List ℕ) (d : Numbered ℕ) (i : ℕ) where
         );
       }
 
-  collides-told : Tells Decision.collision → i < members t → d .run .closed ≡ not-yet → Collides (setting t) W i
-      → AskAgrees t plans ends d i
-  collides-told e h c crash =
+  collides-told : (m : ℕ) → Tells (Decision.collision m) → i < members t → d .run .closed ≡ not-yet
+      → Collides (setting t) W i → Lacks (setting t) W i (factsOf m) → AskAgrees t plans ends d i
+  collides-told m e h c crash lack =
       let moves = moves-stays (setting t) W i (inl crash) in
       record {
         goes = λ g. (
@@ -106,7 +106,13 @@ module _ (t plans ends : List ℕ) (d : Numbered ℕ) (i : ℕ) where
           λ k. absurd (acts-collides (setting t) W i (k .1) crash),
         );
         waits = (λ q. let s = tells-one e q in absurd (apart (cc)), λ k. absurd (moves (inl (k .2))));
-        collides = (λ q. (c, crash), λ k. e);
+        collides = λ m′. (
+          λ q. let s = tells-one e q in
+              let s : m ≡ m′ = cc in
+              (c, crash, subst (λ (x : ℕ). Lacks (setting t) W i (factsOf x)) s lack),
+          λ k. e ∙ ap (λ (x : ℕ). gives (record { decision = Decision.collision x; ticket = ticketOf d i }))
+              (same-facts m m′ (lacks-unique (setting t) W i lack (k .2))),
+        );
         nobody = (λ q. absurd (refused-gives (sym q ∙ e)), λ k. absurd (k h));
         impossible = (
           λ q. absurd (refused-gives (sym q ∙ e)),
@@ -124,7 +130,7 @@ module _ (t plans ends : List ℕ) (d : Numbered ℕ) (i : ℕ) where
           λ k. absurd (n (moves-agent (setting t) W i (inr (worldIn t plans ends (stepped (d .run) i g), k .1)))),
         );
         waits = (λ q. absurd (refused-gives (sym e ∙ q)), λ k. absurd (n (k .1)));
-        collides =
+        collides = λ m.
             (λ q. absurd (refused-gives (sym e ∙ q)), λ k. absurd (n (moves-agent (setting t) W i (inl (k .1)))));
         nobody = (λ q. n, λ k. e);
         impossible = (λ q. absurd (apart (cc)), λ k. absurd (n (k .0)));
@@ -133,7 +139,7 @@ module _ (t plans ends : List ℕ) (d : Numbered ℕ) (i : ℕ) where
       record {
         goes = λ g. (λ q. absurd (refused-gives (sym e ∙ q)), λ k. absurd (closed-open c (k .0)));
         waits = (λ q. absurd (refused-gives (sym e ∙ q)), λ k. absurd (closed-open c (k .0)));
-        collides = (λ q. absurd (refused-gives (sym e ∙ q)), λ k. absurd (closed-open c (k .0)));
+        collides = λ m. (λ q. absurd (refused-gives (sym e ∙ q)), λ k. absurd (closed-open c (k .0)));
         nobody = (λ q. absurd (apart (cc)), λ k. absurd (k h));
         impossible = (λ q. (h, inl c), λ k. e);
       }
@@ -145,7 +151,7 @@ module _ (t plans ends : List ℕ) (d : Numbered ℕ) (i : ℕ) where
               (moves-stays (setting t) W i (inr (worldIn t plans ends (stepped (d .run) i g), k .1)) (inr left)),
         );
         waits = (λ q. absurd (refused-gives (sym e ∙ q)), λ k. absurd (waiting-left (setting t) W i (k .2) left));
-        collides = (
+        collides = λ m. (
           λ q. absurd (refused-gives (sym e ∙ q)),
           λ k. absurd (moves-stays (setting t) W i (inl (k .1)) (inr left)),
         );
@@ -158,7 +164,9 @@ module _ (t plans ends : List ℕ) (d : Numbered ℕ) (i : ℕ) where
       at e (Decided.waits w) = waits-told e h c (its-waits t P (d .run) c i h left w)
       at e (Decided.goes w b) =
           goes-told (result (system t) a (d .run .shared)) e h c (its-acts t P (d .run) c i h left w b)
-      at e (Decided.collides w b) = collides-told e h c (its-collides t P (d .run) c i h left w b)
+      at e (Decided.collides w b) =
+          collides-told (missing (system t) a (d .run .shared)) e h c (its-collides t P (d .run) c i h left w b)
+          (its-lacks t P (d .run) c i h left b)
 
 pub ask-agrees : (t plans ends : List ℕ) (d : Numbered ℕ) (i : ℕ) → RunFits t plans ends (d .run)
     → AskAgrees t plans ends d i

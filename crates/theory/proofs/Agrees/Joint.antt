@@ -14,9 +14,10 @@ use Rattle.semantics.specs.Task.{check}
 use Rattle.semantics.specs.System.{system, waits}
 use Rattle.semantics.specs.Solo.{Solo, solves, soloFrom, entry}
 use Rattle.semantics.specs.Run.{Run, Fault, by, isClosed, Replied, Outcome, failure, Replay, rest, runAfter, tally}
+use Rattle.semantics.specs.Run.{lacked}
 use Rattle.semantics.specs.Run.{pick, start, outcome, replayOn, replay, beginning, planOf, plansOf, endsFit, isSolves}
 use Rattle.semantics.specs.Run.{planRefusal, plansRefusal, jointReplay}
-use Rattle.semantics.specs.Model.{World, Acts, Collides, Execution, unmoved, chosen, Solution}
+use Rattle.semantics.specs.Model.{World, Acts, Collides, Lacks, Execution, unmoved, chosen, Solution}
 use Rattle.semantics.specs.Demands.{factsOf, setting, worldOf, worldAt, OutcomeOf, Ends, SolvingPlans}
 use Rattle.semantics.specs.Demands.{JointReplayAgrees}
 use Rattle.theory.proofs.Lists.{apart, and-elim, all-true, true-all, upTo-mem, mem-upTo}
@@ -26,71 +27,77 @@ use Rattle.theory.proofs.Complete.{closed-outcome}
 use Rattle.theory.proofs.Plans.{leads-solves, leads-entries}
 use Rattle.theory.proofs.Agrees.Step.{same-facts}
 use Rattle.theory.proofs.Agrees.Solo.{entries-own, Replayed, soloFrom-replayed, solution-leads}
-use Rattle.theory.proofs.Agrees.Worlds.{moves-agent, moves-stays, acts-collides, acts-unique}
+use Rattle.theory.proofs.Agrees.Worlds.{moves-agent, moves-stays, acts-collides, acts-unique, lacks-unique}
 use Rattle.theory.proofs.Agrees.Pick.{Going, Picked, picked}
 use Rattle.theory.proofs.Agrees.Outcome.{outcome-says, outcome-unique}
 
 -- ---- picks from any world, one after the other
 
--- from the world w the picks end with this outcome and the facts of g, m of them being done
-pub data EndsFrom (t : List ℕ) : World (setting t) → List ℕ → Outcome → ℕ → ℕ → Type 0 where
-  stop : {w : World (setting t)} {o : Outcome} {g : ℕ} → OutcomeOf t w o → w .state ≡ factsOf g → EndsFrom t w [] o g 0
-  crash : {w : World (setting t)} {i g : ℕ} → Collides (setting t) w i → w .state ≡ factsOf g
-      → EndsFrom t w (i ∷ []) (failure Fault.collision) g 0
-  on : {w w′ : World (setting t)} {i g m : ℕ} {is : List ℕ} {o : Outcome}
-      → Acts (setting t) w i w′ → EndsFrom t w′ is o g m → EndsFrom t w (i ∷ is) o g (suc m)
+-- from the world w the picks end with this outcome and the facts of g, m of them being done; the last one lacks n
+pub data EndsFrom (t : List ℕ) : World (setting t) → List ℕ → Outcome → ℕ → ℕ → ℕ → Type 0 where
+  stop : {w : World (setting t)} {o : Outcome} {g : ℕ} → OutcomeOf t w o → w .state ≡ factsOf g
+      → EndsFrom t w [] o g 0 0
+  crash : {w : World (setting t)} {i g n : ℕ} → Collides (setting t) w i → Lacks (setting t) w i (factsOf n)
+      → w .state ≡ factsOf g
+      → EndsFrom t w (i ∷ []) (failure Fault.collision) g 0 n
+  on : {w w′ : World (setting t)} {i g m n : ℕ} {is : List ℕ} {o : Outcome}
+      → Acts (setting t) w i w′ → EndsFrom t w′ is o g m n → EndsFrom t w (i ∷ is) o g (suc m) n
 
 execution-ends : {t : List ℕ} {w w′ : World (setting t)} {picks : List ℕ} {o : Outcome} {g : ℕ}
     → Execution (setting t) w picks w′ → OutcomeOf t w′ o → w′ .state ≡ factsOf g
-    → EndsFrom t w picks o g (length picks)
+    → EndsFrom t w picks o g (length picks) 0
 execution-ends unmoved s e = stop s e
 execution-ends (chosen a x) s e = on a (execution-ends x s e)
 
-execution-crashes : {t : List ℕ} {w w′ : World (setting t)} {picks : List ℕ} {i g : ℕ}
-    → Execution (setting t) w picks w′ → Collides (setting t) w′ i → w′ .state ≡ factsOf g
-    → EndsFrom t w (picks ++ (i ∷ [])) (failure Fault.collision) g (length picks)
-execution-crashes unmoved c e = crash c e
-execution-crashes (chosen a x) c e = on a (execution-crashes x c e)
+execution-crashes : {t : List ℕ} {w w′ : World (setting t)} {picks : List ℕ} {i g n : ℕ}
+    → Execution (setting t) w picks w′ → Collides (setting t) w′ i → Lacks (setting t) w′ i (factsOf n)
+    → w′ .state ≡ factsOf g
+    → EndsFrom t w (picks ++ (i ∷ [])) (failure Fault.collision) g (length picks) n
+execution-crashes unmoved c l e = crash c l e
+execution-crashes (chosen a x) c l e = on a (execution-crashes x c l e)
 
-ends-from : (t : List ℕ) (plans : List (List ℕ)) {picks : List ℕ} {o : Outcome} {g k : ℕ}
-    → Ends t plans picks o g k → EndsFrom t (worldOf t plans) picks o g k
+ends-from : (t : List ℕ) (plans : List (List ℕ)) {picks : List ℕ} {o : Outcome} {g k n : ℕ}
+    → Ends t plans picks o g k n → EndsFrom t (worldOf t plans) picks o g k n
 ends-from t plans (Ends.ends x s e) = execution-ends x s e
-ends-from t plans (Ends.collided x c e) = execution-crashes x c e
+ends-from t plans (Ends.collided x c l e) = execution-crashes x c l e
 
 -- the two ways in which picks end
-abbrev Stopped : (t : List ℕ) → World (setting t) → List ℕ → Outcome → ℕ → ℕ → Type 0
-Stopped t w picks o g m =
+abbrev Stopped : (t : List ℕ) → World (setting t) → List ℕ → Outcome → ℕ → ℕ → ℕ → Type 0
+Stopped t w picks o g m n =
     (w′ : World (setting t)) × Execution (setting t) w picks w′ × OutcomeOf t w′ o × (w′ .state ≡ factsOf g)
     × (m ≡ length picks)
+    × (n ≡ 0)
 
-abbrev Crashed : (t : List ℕ) → World (setting t) → List ℕ → Outcome → ℕ → ℕ → Type 0
-Crashed t w picks o g m =
+abbrev Crashed : (t : List ℕ) → World (setting t) → List ℕ → Outcome → ℕ → ℕ → ℕ → Type 0
+Crashed t w picks o g m n =
     (is : List ℕ)
     × (i : ℕ)
     × (w′ : World (setting t))
     × Execution (setting t) w is w′
     × Collides (setting t) w′ i
+    × Lacks (setting t) w′ i (factsOf n)
     × (w′ .state ≡ factsOf g)
     × (picks ≡ is ++ (i ∷ []))
     × (o ≡ failure Fault.collision)
     × (m ≡ length is)
 
-from-cases : {t : List ℕ} {w : World (setting t)} {picks : List ℕ} {o : Outcome} {g m : ℕ}
-    → EndsFrom t w picks o g m → Stopped t w picks o g m ⊎ Crashed t w picks o g m
-from-cases (stop {w} s e) = inl (w, unmoved, s, e, refl)
-from-cases (crash {w} {i} c e) = inr ([], i, w, unmoved, c, e, refl, refl, refl)
+from-cases : {t : List ℕ} {w : World (setting t)} {picks : List ℕ} {o : Outcome} {g m n : ℕ}
+    → EndsFrom t w picks o g m n → Stopped t w picks o g m n ⊎ Crashed t w picks o g m n
+from-cases (stop {w} s e) = inl (w, unmoved, s, e, refl, refl)
+from-cases (crash {w} {i} c l e) = inr ([], i, w, unmoved, c, l, e, refl, refl, refl)
 from-cases (on {i} a x) =
     ⊎-elim
-    (λ (w, y, s, e, q). inl (w, chosen a y, s, e, ap suc q))
-    (λ (is, j, w, y, c, e, p, o, q). inr (i ∷ is, j, w, chosen a y, c, e, ap (λ (l : List ℕ). i ∷ l) p, o, ap suc q))
+    (λ (w, y, s, e, q, z). inl (w, chosen a y, s, e, ap suc q, z))
+    (λ (is, j, w, y, c, l, e, p, o, q).
+    inr (i ∷ is, j, w, chosen a y, c, l, e, ap (λ (l : List ℕ). i ∷ l) p, o, ap suc q))
     (from-cases x)
 
-from-ends : (t : List ℕ) (plans : List (List ℕ)) {picks : List ℕ} {o : Outcome} {g k : ℕ}
-    → EndsFrom t (worldOf t plans) picks o g k → Ends t plans picks o g k
+from-ends : (t : List ℕ) (plans : List (List ℕ)) {picks : List ℕ} {o : Outcome} {g k n : ℕ}
+    → EndsFrom t (worldOf t plans) picks o g k n → Ends t plans picks o g k n
 from-ends t plans x =
     ⊎-elim
-    (λ (w, y, s, e, q). rw q (Ends.ends y s e))
-    (λ (is, j, w, y, c, e, p, o, q). rw (p, o, q) (Ends.collided y c e))
+    (λ (w, y, s, e, q, z). rw (q, z) (Ends.ends y s e))
+    (λ (is, j, w, y, c, l, e, p, o, q). rw (p, o, q) (Ends.collided y c l e))
     (from-cases x)
 
 -- ---- joint replay from a run
@@ -105,107 +112,120 @@ closed-pick t plans r c j = go (ltb j (Task.members t)) refl
     go true q = (13, rw (q, c))
     go false q = (8, rw q)
 
-refused-replay : (t : List ℕ) (plans : List (List ℕ)) (e k : ℕ) (picks : List ℕ)
-    → replayOn (system t) (waits t) plans (refused e) k picks ≡ refused e
+refused-replay : (t : List ℕ) (plans : List (List ℕ)) (e k n : ℕ) (picks : List ℕ)
+    → replayOn (system t) (waits t) plans (refused e) k n picks ≡ refused e
 unfolding replayOn
-refused-replay t plans e k [] = refl
-refused-replay t plans e k (j ∷ js) = refl
+refused-replay t plans e k n [] = refl
+refused-replay t plans e k n (j ∷ js) = refl
 
-replay-path : {o o′ : Outcome} {g g′ n n′ : ℕ} → o ≡ o′ → g ≡ g′ → n ≡ n′
-    → _≡_ {A = Answer (Replay ℕ)} (gives (record { outcome = o; shared = g; picked = n }))
-    (gives (record { outcome = o′; shared = g′; picked = n′ }))
-replay-path p q s = λ i. gives (record { outcome = p i; shared = q i; picked = s i })
+abbrev answer : Outcome → ℕ → ℕ → ℕ → Answer (Replay ℕ)
+answer o g k n = gives (record { outcome = o; shared = g; picked = k; missing = n })
+
+replay-path : {o o′ : Outcome} {g g′ k k′ n n′ : ℕ} → o ≡ o′ → g ≡ g′ → k ≡ k′ → n ≡ n′
+    → answer o g k n ≡ answer o′ g′ k′ n′
+replay-path p q s z = λ i. answer (p i) (q i) (s i) (z i)
 
 module _ (t : List ℕ) (plans : List (List ℕ)) where
-  abbrev on-from : Answer (Run ℕ) → ℕ → List ℕ → Answer (Replay ℕ)
+  abbrev on-from : Answer (Run ℕ) → ℕ → ℕ → List ℕ → Answer (Replay ℕ)
   on-from = replayOn (system t) (waits t) plans
 
   -- the answer says of the run's world how the picks end
   abbrev Told : Run ℕ → ℕ → List ℕ → Replay ℕ → Type 0
-  Told r k picks a = (m : ℕ) × (a .picked ≡ k + m) × EndsFrom t (worldAt t plans r) picks (a .outcome) (a .shared) m
+  Told r k picks a =
+      (m : ℕ) × (a .picked ≡ k + m) × EndsFrom t (worldAt t plans r) picks (a .outcome) (a .shared) m (a .missing)
 
-  closed-on : (r : Run ℕ) (f : Fault) → r .closed ≡ by f → (k : ℕ) (picks : List ℕ) (a : Replay ℕ)
-      → on-from (gives r) k picks ≡ gives a
-      → (picks ≡ []) × (a .outcome ≡ failure f) × (a .shared ≡ r .shared) × (a .picked ≡ k)
+  -- what is told where no pick is left
+  abbrev last : Run ℕ → ℕ → ℕ → Replay ℕ
+  last r k n =
+      record { outcome = outcome (system t) (waits t) plans r; shared = r .shared; picked = k; missing = n }
+
+  closed-on : (r : Run ℕ) (f : Fault) → r .closed ≡ by f → (k n : ℕ) (picks : List ℕ) (a : Replay ℕ)
+      → on-from (gives r) k n picks ≡ gives a
+      → (picks ≡ []) × (a .outcome ≡ failure f) × (a .shared ≡ r .shared) × (a .picked ≡ k) × (a .missing ≡ n)
   unfolding replayOn
-  closed-on r f c k [] a h =
-      let q : (record { outcome = outcome (system t) (waits t) plans r; shared = r .shared; picked = k }) ≡ a = cc in (
+  closed-on r f c k n [] a h =
+      let q : last r k n ≡ a = cc in (
         refl,
         sym (ap (λ (x : Replay ℕ). x .outcome) q) ∙ closed-outcome (system t) (waits t) plans r f c,
         sym (ap (λ (x : Replay ℕ). x .shared) q),
         sym (ap (λ (x : Replay ℕ). x .picked) q),
+        sym (ap (λ (x : Replay ℕ). x .missing) q),
       )
-  closed-on r f c k (j ∷ js) a h =
+  closed-on r f c k n (j ∷ js) a h =
       let (e, q) = closed-pick t plans r (ap isClosed c) j in
-      let given : on-from (refused e) k js ≡ gives a =
-      subst (λ (x : Answer (Replied (Run ℕ))). on-from (runAfter x) (tally k x) js ≡ gives a) q h in
-      absurd (refused-gives (sym (refused-replay t plans e k js) ∙ given))
+      let given : on-from (refused e) k 0 js ≡ gives a =
+      subst (λ (x : Answer (Replied (Run ℕ))). on-from (runAfter x) (tally k x) (lacked x) js ≡ gives a) q h in
+      absurd (refused-gives (sym (refused-replay t plans e k 0 js) ∙ given))
 
   -- a pick, and what is told of the picks after it
   told-pick : (r : Run ℕ) (j k : ℕ) (js : List ℕ) (a : Replay ℕ) (x : Answer (Replied (Run ℕ))) → Picked t plans r j x
-      → ((r′ : Run ℕ) → Going r′ → (k′ : ℕ) → on-from (gives r′) k′ js ≡ gives a → Told r′ k′ js a)
-      → on-from (runAfter x) (tally k x) js ≡ gives a → Told r k (j ∷ js) a
+      → ((r′ : Run ℕ) → Going r′ → (k′ : ℕ) → on-from (gives r′) k′ 0 js ≡ gives a → Told r′ k′ js a)
+      → on-from (runAfter x) (tally k x) (lacked x) js ≡ gives a → Told r k (j ∷ js) a
   told-pick r j k js a (gives p) (Picked.goes g act) ih h =
       let (m, q, f) = ih (p .run) g (k + 1) h in
       (suc m, omega arith, on act f)
-  told-pick r j k js a (gives p) (Picked.collides c s k′) ih h =
-      let (e, o, g, n) = closed-on (p .run) Fault.collision c k js a h in
-      (0, omega arith, rw (e, o) (crash k′ (ap factsOf (sym (g ∙ s)))))
-  told-pick r j k js a (refused e) p ih h = absurd (apart (cc (refused-replay t plans e k js)))
+  told-pick r j k js a (gives p) (Picked.collides {m = m} c s k′ l) ih h =
+      let (e, o, g, n, z) = closed-on (p .run) Fault.collision c k m js a h in
+      (0, omega arith, rw (e, o, z) (crash k′ l (ap factsOf (sym (g ∙ s)))))
+  told-pick r j k js a (refused e) p ih h = absurd (apart (cc (refused-replay t plans e k 0 js)))
 
-  replay-told : (picks : List ℕ) (r : Run ℕ) → Going r → (k : ℕ) (a : Replay ℕ) → on-from (gives r) k picks ≡ gives a
+  replay-told : (picks : List ℕ) (r : Run ℕ) → Going r → (k : ℕ) (a : Replay ℕ)
+      → on-from (gives r) k 0 picks ≡ gives a
       → Told r k picks a
   unfolding replayOn
   replay-told [] r g k a h =
-      let q : (record { outcome = outcome (system t) (waits t) plans r; shared = r .shared; picked = k }) ≡ a = cc in
+      let q : last r k 0 ≡ a = cc in
       subst (Told r k []) q (0, omega arith, stop (outcome-says t plans r g) refl)
   replay-told (j ∷ js) r g k a h =
       told-pick r j k js a (pick (system t) (waits t) plans r j) (picked t plans r g j)
       (λ r′ g′ k′ e. replay-told js r′ g′ k′ a e) h
 
   -- a pick that collides, or that goes, is answered so
-  replay-crash : (r : Run ℕ) (i k g : ℕ) (x : Answer (Replied (Run ℕ))) → Picked t plans r i x
-      → Collides (setting t) (worldAt t plans r) i → g ≡ r .shared
-      → on-from (runAfter x) (tally k x) []
-      ≡ gives (record { outcome = failure Fault.collision; shared = g; picked = k + 0 })
+  replay-crash : (r : Run ℕ) (i k g n : ℕ) (x : Answer (Replied (Run ℕ))) → Picked t plans r i x
+      → Collides (setting t) (worldAt t plans r) i → Lacks (setting t) (worldAt t plans r) i (factsOf n)
+      → g ≡ r .shared
+      → on-from (runAfter x) (tally k x) (lacked x) [] ≡ answer (failure Fault.collision) g (k + 0) n
   unfolding replayOn
-  replay-crash r i k g (gives p) (Picked.goes g′ act) c e =
+  replay-crash r i k g n (gives p) (Picked.goes g′ act) c l e =
       absurd (acts-collides (setting t) (worldAt t plans r) i act c)
-  replay-crash r i k g (gives p) (Picked.collides c s k′) col e =
+  replay-crash r i k g n (gives p) (Picked.collides {m = m} c s k′ l′) col l e =
       replay-path (closed-outcome (system t) (waits t) plans (p .run) Fault.collision c) (s ∙ sym e) (omega arith)
-  replay-crash r i k g (refused n) (Picked.impossible h) c e =
+      (same-facts m n (lacks-unique (setting t) (worldAt t plans r) i l′ l))
+  replay-crash r i k g n (refused x) (Picked.impossible h) c l e =
       absurd (moves-stays (setting t) (worldAt t plans r) i (inl c)
       (h (moves-agent (setting t) (worldAt t plans r) i (inl c))))
 
-  replay-act : (r : Run ℕ) (i k g m : ℕ) (is : List ℕ) (o : Outcome) (w : World (setting t))
+  replay-act : (r : Run ℕ) (i k g m n : ℕ) (is : List ℕ) (o : Outcome) (w : World (setting t))
       (x : Answer (Replied (Run ℕ)))
       → Picked t plans r i x
       → Acts (setting t) (worldAt t plans r) i w
       → ((r′ : Run ℕ) → Going r′ → w ≡ worldAt t plans r′ → (k′ : ℕ)
-      → on-from (gives r′) k′ is ≡ gives (record { outcome = o; shared = g; picked = k′ + m }))
-      → on-from (runAfter x) (tally k x) is ≡ gives (record { outcome = o; shared = g; picked = k + suc m })
-  replay-act r i k g m is o w (gives p) (Picked.goes g′ act) a ih =
-      ih (p .run) g′ (acts-unique (setting t) (worldAt t plans r) i a act) (k + 1) ∙ replay-path refl refl (omega arith)
-  replay-act r i k g m is o w (gives p) (Picked.collides c s k′) a ih =
+      → on-from (gives r′) k′ 0 is ≡ answer o g (k′ + m) n)
+      → on-from (runAfter x) (tally k x) (lacked x) is ≡ answer o g (k + suc m) n
+  replay-act r i k g m n is o w (gives p) (Picked.goes g′ act) a ih =
+      ih (p .run) g′ (acts-unique (setting t) (worldAt t plans r) i a act) (k + 1)
+      ∙ replay-path refl refl (omega arith) refl
+  replay-act r i k g m n is o w (gives p) (Picked.collides c s k′ l) a ih =
       absurd (acts-collides (setting t) (worldAt t plans r) i a k′)
-  replay-act r i k g m is o w (refused n) (Picked.impossible h) a ih =
+  replay-act r i k g m n is o w (refused x) (Picked.impossible h) a ih =
       absurd (moves-stays (setting t) (worldAt t plans r) i (inr (w, a))
       (h (moves-agent (setting t) (worldAt t plans r) i (inr (w, a)))))
 
-  told-replay : {w : World (setting t)} {picks : List ℕ} {o : Outcome} {g m : ℕ} → EndsFrom t w picks o g m
+  told-replay : {w : World (setting t)} {picks : List ℕ} {o : Outcome} {g m n : ℕ} → EndsFrom t w picks o g m n
       → (r : Run ℕ) → Going r → w ≡ worldAt t plans r → (k : ℕ)
-      → on-from (gives r) k picks ≡ gives (record { outcome = o; shared = g; picked = k + m })
+      → on-from (gives r) k 0 picks ≡ answer o g (k + m) n
   unfolding replayOn
   told-replay (stop {w} {o} {g} s e) r gr q k =
       replay-path (outcome-unique t plans r gr o (subst (λ (v : World (setting t)). OutcomeOf t v o) q s))
       (same-facts (r .shared) g (ap (λ (v : World (setting t)). v .state) (sym q) ∙ e))
-      (omega arith)
-  told-replay (crash {w} {i} {g} c e) r gr q k =
-      replay-crash r i k g (pick (system t) (waits t) plans r i) (picked t plans r gr i)
+      (omega arith) refl
+  told-replay (crash {w} {i} {g} {n} c l e) r gr q k =
+      replay-crash r i k g n (pick (system t) (waits t) plans r i) (picked t plans r gr i)
       (subst (λ (v : World (setting t)). Collides (setting t) v i) q c)
+      (subst (λ (v : World (setting t)). Lacks (setting t) v i (factsOf n)) q l)
       (same-facts g (r .shared) (sym e ∙ ap (λ (v : World (setting t)). v .state) q))
-  told-replay (on {w} {w′} {i} {g} {m} {is} {o} a x) r gr q k =
-      replay-act r i k g m is o w′ (pick (system t) (waits t) plans r i) (picked t plans r gr i)
+  told-replay (on {w} {w′} {i} {g} {m} {n} {is} {o} a x) r gr q k =
+      replay-act r i k g m n is o w′ (pick (system t) (waits t) plans r i) (picked t plans r gr i)
       (subst (λ (v : World (setting t)). Acts (setting t) v i w′) q a)
       (λ r′ g′ e k′. told-replay x r′ g′ e k′)
 
@@ -283,36 +303,31 @@ module _ (t plans ends : List ℕ) where
     abbrev P : List (List ℕ)
     P = plansOf (Task.members t) plans ends
 
-    answer : (picks : List ℕ)
-        → jointReplay t plans ends picks ≡ replayOn (system t) (waits t) P (gives (start (system t))) 0 picks
+    from-start : (picks : List ℕ)
+        → jointReplay t plans ends picks ≡ replayOn (system t) (waits t) P (gives (start (system t))) 0 0 picks
     unfolding jointReplay replay
-    answer picks = ap (λ (r : ℕ). unless r (replayOn (system t) (waits t) P (gives (start (system t))) 0 picks)) h
+    from-start picks =
+        ap (λ (r : ℕ). unless r (replayOn (system t) (waits t) P (gives (start (system t))) 0 0 picks)) h
 
     begins : (a : Replay ℕ) × (jointReplay t plans ends [] ≡ gives a)
     unfolding replayOn
-    begins = (
-      record {
-        outcome = outcome (system t) (waits t) P (start (system t));
-        shared =
-            start (system t) .shared;
-        picked = 0;
-      },
-      answer [],
-    )
+    begins = (last t P (start (system t)) 0 0, from-start [])
 
-    replays : (picks : List ℕ) (o : Outcome) (g k : ℕ)
-        → (jointReplay t plans ends picks
-        ≡ gives (record { outcome = o; shared = g; picked = k })) ↔ Ends t P picks o g k
-    replays picks o g k = (
+    replays : (picks : List ℕ) (o : Outcome) (g k n : ℕ)
+        → (jointReplay t plans ends picks ≡ answer o g k n) ↔ Ends t P picks o g k n
+    replays picks o g k n = (
       λ e.
           let (m, q, f) =
           replay-told t P picks (start (system t)) (start-going t) 0
-          (record { outcome = o; shared = g; picked = k }) (sym (answer picks) ∙ e) in
+          (record { outcome = o; shared = g; picked = k; missing = n }) (sym (from-start picks) ∙ e) in
           let m′ : m ≡ k = omega arith in
-          from-ends t P (rw (start-world t P) (subst (EndsFrom t (worldAt t P (start (system t))) picks o g) m′ f)),
+          from-ends t P
+          (rw (start-world t P)
+          (subst (λ (x : ℕ). EndsFrom t (worldAt t P (start (system t))) picks o g x n) m′ f)),
       λ e.
-          answer picks ∙ told-replay t P (ends-from t P e) (start (system t)) (start-going t) (start-world t P) 0
-          ∙ replay-path refl refl (omega arith),
+          from-start picks
+          ∙ told-replay t P (ends-from t P e) (start (system t)) (start-going t) (start-world t P) 0
+          ∙ replay-path refl refl (omega arith) refl,
     )
 
 pub joint-replay-agrees : (t plans ends : List ℕ) → JointReplayAgrees t plans ends

@@ -74,7 +74,7 @@ picked-given : (t : List ℕ) (plans : List (List ℕ)) (r : Run ℕ) (j : ℕ) 
     → Picked t plans r j x
     → (given x ≡ true) ↔ Moves (setting t) (worldAt t plans r) j
 picked-given t plans r j (gives p) (Picked.goes g a) = (λ h. inr (worldAt t plans (p .run), a), λ m. refl)
-picked-given t plans r j (gives p) (Picked.collides c s k) = (λ h. inl k, λ m. refl)
+picked-given t plans r j (gives p) (Picked.collides c s k l) = (λ h. inl k, λ m. refl)
 picked-given t plans r j (refused e) (Picked.impossible h) = (
   λ k. absurd (false≢true k),
   λ m. absurd

@@ -11,18 +11,18 @@ use borrow.Author.Tests.{eqb-true, eqb-false, ltb-false, le-ltb}
 use Rattle.semantics.specs.Base.{upTo, _if_, Answer, refused, gives}
 use Rattle.semantics.specs.Mask.{below}
 use Rattle.semantics.specs.Task as Task
-use Rattle.semantics.specs.System.{able, result, system, waits}
+use Rattle.semantics.specs.System.{able, result, missing, system, waits}
 use Rattle.semantics.specs.Run.{Run, Fault, not-yet, by, isClosed, Reply, Replied, rest, stepped, closedBy, pick}
-use Rattle.semantics.specs.Run.{planOf, plansOf, plansRefusal, runRefusal, pickOn}
-use Rattle.semantics.specs.Model.{World, leaving, apply, Acts, acts, Collides, Waiting}
+use Rattle.semantics.specs.Run.{lackedBy, planOf, plansOf, plansRefusal, runRefusal, pickOn}
+use Rattle.semantics.specs.Model.{World, leaving, apply, Acts, acts, Collides, Lacks, Waiting}
 use Rattle.semantics.specs.Demands.{factsOf, setting, worldAt, worldIn, Stays, RunFits, PickAgrees}
 use Rattle.theory.proofs.Lists.{apart, any-false, false-any, upTo-mem, mem-upTo}
 use Rattle.theory.proofs.Refusals.{else-both, if-false, if-not-true, refused-gives, gives-inj, unless-gives}
 use Rattle.theory.proofs.Attempts.{able-sub, unable-not-sub}
 use Rattle.theory.proofs.Picks as Pick
 use Rattle.theory.proofs.Picks.{closed-open, rest-picked, rest-others}
-use Rattle.theory.proofs.Agrees.Step.{facts-result, same-facts, asks-within, waits-lack}
-use Rattle.theory.proofs.Agrees.Worlds.{moves-agent, moves-stays, acts-collides, acts-unique}
+use Rattle.theory.proofs.Agrees.Step.{facts-result, facts-missing, same-facts, asks-within, waits-lack}
+use Rattle.theory.proofs.Agrees.Worlds.{moves-agent, moves-stays, acts-collides, acts-unique, lacks-unique}
 
 -- a run that goes on is not closed
 abbrev pub Going : Run ℕ → Type 0
@@ -32,9 +32,10 @@ Going r = r .closed ≡ not-yet
 pub data Picked (t : List ℕ) (plans : List (List ℕ)) (r : Run ℕ) (j : ℕ) : Answer (Replied (Run ℕ)) → Type 0 where
   goes : {r′ : Run ℕ} → Going r′ → Acts (setting t) (worldAt t plans r) j (worldAt t plans r′)
       → Picked t plans r j (gives (record { reply = Reply.goes; run = r′ }))
-  collides : {r′ : Run ℕ} → r′ .closed ≡ by Fault.collision → r′ .shared ≡ r .shared
+  collides : {r′ : Run ℕ} {m : ℕ} → r′ .closed ≡ by Fault.collision → r′ .shared ≡ r .shared
       → Collides (setting t) (worldAt t plans r) j
-      → Picked t plans r j (gives (record { reply = Reply.collides; run = r′ }))
+      → Lacks (setting t) (worldAt t plans r) j (factsOf m)
+      → Picked t plans r j (gives (record { reply = Reply.collides m; run = r′ }))
   impossible : {e : ℕ} → (j < Task.members t → Stays (setting t) (worldAt t plans r) j) → Picked t plans r j (refused e)
 
 module _ (t : List ℕ) (plans : List (List ℕ)) (r : Run ℕ) (going : Going r) (j : ℕ) where
@@ -68,6 +69,10 @@ module _ (t : List ℕ) (plans : List (List ℕ)) (r : Run ℕ) (going : Going r
     its-collides w b =
         Collides.collides member left (asks-within t a (r .shared) w) (unable-not-sub t a (r .shared) b)
 
+    pub its-lacks : able (system t) a (r .shared) ≡ false
+        → Lacks (setting t) (worldAt t plans r) j (factsOf (missing (system t) a (r .shared)))
+    its-lacks b = (a, π, left, facts-missing t a (r .shared) b)
+
     pub its-waits : waits t a (r .shared) ≡ true → Waiting (setting t) (worldAt t plans r) j
     its-waits w = Waiting.waiting left (waits-lack t a (r .shared) w)
 
@@ -77,7 +82,7 @@ module _ (t : List ℕ) (plans : List (List ℕ)) (r : Run ℕ) (going : Going r
   asked x (Pick.Picked.over h e left) = impossible (λ l. inr left)
   asked x (Pick.Picked.waits h e left w) = impossible (λ l. inl (its-waits h left w))
   asked x (Pick.Picked.goes h e left w b) = goes refl (its-acts h left w b)
-  asked x (Pick.Picked.collides h e left w b) = collides refl refl (its-collides h left w b)
+  asked x (Pick.Picked.collides h e left w b) = collides refl refl (its-collides h left w b) (its-lacks h left b)
 
 pub picked : (t : List ℕ) → (plans : List (List ℕ)) (r : Run ℕ) → Going r
     → (j : ℕ) → Picked t plans r j (pick (system t) (waits t) plans r j)
@@ -139,7 +144,7 @@ module _ (t plans ends : List ℕ) (r : Run ℕ) (i : ℕ) where
               (ap (λ (w : World (setting t)). w .state) (acts-unique (setting t) W i act (k .1))) in
               e ∙ ap (λ (x : ℕ). gives (record { reply = Reply.goes; run = stepped r i x })) s,
         );
-        collides = (
+        collides = λ m. (
           λ q. absurd (false≢true (ap (λ (x : Replied (Run ℕ)). isClosed (x .run .closed)) (gives-inj (sym e ∙ q)))),
           λ k. absurd (acts-collides (setting t) W i act (k .1)),
         );
@@ -152,16 +157,22 @@ module _ (t plans ends : List ℕ) (r : Run ℕ) (i : ℕ) where
         );
       }
 
-  collides-told : pickOn t plans ends r i ≡ gives (record { reply = Reply.collides; run = closedBy r Fault.collision })
-      → i < Task.members t → r .closed ≡ not-yet → Collides (setting t) W i
+  collides-told : (m : ℕ)
+      → pickOn t plans ends r i ≡ gives (record { reply = Reply.collides m; run = closedBy r Fault.collision })
+      → i < Task.members t → r .closed ≡ not-yet → Collides (setting t) W i → Lacks (setting t) W i (factsOf m)
       → PickAgrees t plans ends r i
-  collides-told e h c crash =
+  collides-told m e h c crash lack =
       record {
         goes = λ g. (
           λ q. absurd (false≢true (ap (λ (x : Replied (Run ℕ)). isClosed (x .run .closed)) (gives-inj (sym q ∙ e)))),
           λ k. absurd (acts-collides (setting t) W i (k .1) crash),
         );
-        collides = (λ q. (c, crash), λ k. e);
+        collides = λ m′. (
+          λ q. let s : m ≡ m′ = ap (λ (x : Replied (Run ℕ)). lackedBy (x .reply)) (gives-inj (sym e ∙ q)) in
+              (c, crash, subst (λ (x : ℕ). Lacks (setting t) W i (factsOf x)) s lack),
+          λ k. e ∙ ap (λ (x : ℕ). gives (record { reply = Reply.collides x; run = closedBy r Fault.collision }))
+              (same-facts m m′ (lacks-unique (setting t) W i lack (k .2))),
+        );
         nobody = (λ q. absurd (refused-gives (sym q ∙ e)), λ k. absurd (k h));
         impossible = (
           λ q. absurd (refused-gives (sym q ∙ e)),
@@ -177,7 +188,10 @@ module _ (t plans ends : List ℕ) (r : Run ℕ) (i : ℕ) where
           λ q. absurd (refused-gives (sym e ∙ q)),
           λ k. absurd (moves-stays (setting t) W i (inr (worldIn t plans ends (stepped r i g), k .1)) s),
         );
-        collides = (λ q. absurd (refused-gives (sym e ∙ q)), λ k. absurd (moves-stays (setting t) W i (inl (k .1)) s));
+        collides = λ m. (
+          λ q. absurd (refused-gives (sym e ∙ q)),
+          λ k. absurd (moves-stays (setting t) W i (inl (k .1)) s),
+        );
         nobody = (λ q. absurd (apart (cc)), λ k. absurd (k h));
         impossible = (λ q. (h, inr s), λ k. e);
       }
@@ -191,7 +205,7 @@ module _ (t plans ends : List ℕ) (r : Run ℕ) (i : ℕ) where
           λ q. absurd (refused-gives (sym e ∙ q)),
           λ k. absurd (n (moves-agent (setting t) W i (inr (worldIn t plans ends (stepped r i g), k .1)))),
         );
-        collides =
+        collides = λ m.
             (λ q. absurd (refused-gives (sym e ∙ q)), λ k. absurd (n (moves-agent (setting t) W i (inl (k .1)))));
         nobody = (λ q. n, λ k. e);
         impossible = (λ q. absurd (apart (cc)), λ k. absurd (n (k .0)));
@@ -199,7 +213,7 @@ module _ (t plans ends : List ℕ) (r : Run ℕ) (i : ℕ) where
   told x e (Pick.Picked.closed h c) =
       record {
         goes = λ g. (λ q. absurd (refused-gives (sym e ∙ q)), λ k. absurd (closed-open c (k .0)));
-        collides = (λ q. absurd (refused-gives (sym e ∙ q)), λ k. absurd (closed-open c (k .0)));
+        collides = λ m. (λ q. absurd (refused-gives (sym e ∙ q)), λ k. absurd (closed-open c (k .0)));
         nobody = (λ q. absurd (apart (cc)), λ k. absurd (k h));
         impossible = (λ q. (h, inl c), λ k. e);
       }
@@ -207,7 +221,9 @@ module _ (t plans ends : List ℕ) (r : Run ℕ) (i : ℕ) where
   told x e (Pick.Picked.waits h c left w) = stays-told e h (inl (its-waits t P r c i h left w))
   told x e (Pick.Picked.goes {a = a} h c left w b) =
       goes-told (result (system t) a (r .shared)) e h c (its-acts t P r c i h left w b)
-  told x e (Pick.Picked.collides h c left w b) = collides-told e h c (its-collides t P r c i h left w b)
+  told x e (Pick.Picked.collides {a = a} h c left w b) =
+      collides-told (missing (system t) a (r .shared)) e h c (its-collides t P r c i h left w b)
+      (its-lacks t P r c i h left b)
 
 pub pick-agrees : (t plans ends : List ℕ) (r : Run ℕ) (i : ℕ) → RunFits t plans ends r → PickAgrees t plans ends r i
 pick-agrees t plans ends r i f =

@@ -38,7 +38,7 @@ module _ (t : List ℕ) (plans : List (List ℕ)) where
       → Acts (setting t) (at r) i w
       → Going (passOver r x) × (w ≡ at (passOver r x))
   act-picked r i w (gives p) (Picked.goes g act) a = (g, acts-unique (setting t) (at r) i a act)
-  act-picked r i w (gives p) (Picked.collides c s k) a = absurd (acts-collides (setting t) (at r) i a k)
+  act-picked r i w (gives p) (Picked.collides c s k l) a = absurd (acts-collides (setting t) (at r) i a k)
   act-picked r i w (refused e) (Picked.impossible h) a =
       absurd (moves-stays (setting t) (at r) i (inr (w, a)) (h (moves-agent (setting t) (at r) i (inr (w, a)))))
 
@@ -63,7 +63,7 @@ module _ (t : List ℕ) (plans : List (List ℕ)) where
       → Collides (setting t) (at r) i
       → passOver r x .closed ≡ by-fault Fault.collision
   crash-picked r i (gives p) (Picked.goes g act) k = absurd (acts-collides (setting t) (at r) i act k)
-  crash-picked r i (gives p) (Picked.collides c s k′) k = c
+  crash-picked r i (gives p) (Picked.collides c s k′ l) k = c
   crash-picked r i (refused e) (Picked.impossible h) k =
       absurd (moves-stays (setting t) (at r) i (inl k) (h (moves-agent (setting t) (at r) i (inl k))))
 
@@ -126,7 +126,7 @@ module _ (t : List ℕ) (plans : List (List ℕ)) where
       → (i : ℕ) (x : Answer (Replied (Run ℕ))) → Picked t plans r i x
       → Led (passOver r x)
   pick-led r g x i (gives p) (Picked.goes g′ act) = going g′ (execution-snoc x act)
-  pick-led r g x i (gives p) (Picked.collides c s k) = crashed x k
+  pick-led r g x i (gives p) (Picked.collides c s k l) = crashed x k
   pick-led r g x i (refused e) (Picked.impossible h) = going g x
 
   plays-led : (r : Run ℕ) → Led r → (js : List ℕ) → Led (played r js)

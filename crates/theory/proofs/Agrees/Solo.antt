@@ -10,7 +10,7 @@ use lib.Seq.{drop-nil}
 use lib.Dec.{ltb}
 use borrow.Author.Tests.{ltb-true, eqb-true}
 use Rattle.semantics.specs.Base.{_if_, gives, unless, firstRefusal}
-use Rattle.semantics.specs.Mask.{within, after}
+use Rattle.semantics.specs.Mask.{within, without, after}
 use Rattle.semantics.specs.Task as Task
 use Rattle.semantics.specs.System.{goes, lacks, tried, system, Own, Leads, done, next, Solves}
 use Rattle.semantics.specs.Solo.{Solo, solves, breaks, short, soloFrom, entry, soloRefusal, soloReplay}
@@ -132,7 +132,7 @@ soloFrom-replayed t i k s (a ∷ p) own =
         → Replayed t i (suc k) (after s (Task.add t a) (Task.del t a)) p
         (soloFrom (system t) i (suc k) (after s (Task.add t a) (Task.del t a)) p)
         → Replayed t i k s (a ∷ p)
-        (tried (cond b (goes (after s (Task.add t a) (Task.del t a))) lacks)
+        (tried (cond b (goes (after s (Task.add t a) (Task.del t a))) (lacks (without (Task.pre t a) s)))
         (λ next. soloFrom (system t) i (suc k) next p) (breaks k))
     go true e r =
         replayed-cons t i k s a p (soloFrom (system t) i (suc k) (after s (Task.add t a) (Task.del t a)) p)

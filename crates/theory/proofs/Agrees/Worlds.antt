@@ -1,10 +1,10 @@
 -- The model's scheduler: which agents can be chosen, and what excludes what.
-use mathlib.Core.Path.{_≡_, subst}
+use mathlib.Core.Path.{_≡_, sym, ap, subst, _∙_}
 use mathlib.Core.Logic.{_⊎_, inl, inr}
 use mathlib.Core.List.{List, [], _∷_}
 use Prim.Native.Nat.{ℕ, _<_}
 use Rattle.semantics.specs.Model.{Setting, _⊆_, World, Acts, acts, Collides, collides, Waiting, waiting, Ended}
-use Rattle.semantics.specs.Model.{Deadlock, GoesOn}
+use Rattle.semantics.specs.Model.{FactSet, unmet, Lacks, Deadlock, GoesOn}
 use Rattle.semantics.specs.Demands.{Stays}
 use Rattle.theory.proofs.Lists.{apart}
 
@@ -42,6 +42,12 @@ module _ (Π : Setting) where
         let s : a ≡ b = cc in
         let q : π ≡ ρ = cc in
         rw (s, q)
+
+    -- a pending action lacks the facts of one set
+    pub lacks-unique : {m m′ : FactSet} → Lacks Π w i m → Lacks Π w i m′ → m ≡ m′
+    lacks-unique (a, π, e, q) (b, ρ, e′, q′) =
+        let s : a ≡ b = cc in
+        q ∙ ap (λ (x : ℕ). unmet Π x (w .state)) s ∙ sym q′
 
   pub ended-goes : (w : World Π) → Ended Π w → GoesOn Π w → ⊥
   ended-goes w e (i, m) = moves-stays w i m (inr (e i (moves-agent w i m)))

@@ -1,16 +1,16 @@
 //! Lists of asks, commits and picks on one run. Each call is compared with the paper's. Besides,
 //! without looking at the paper: an ask leaves the run as it was; a commit that is not refused
-//! answers what an ask answers just before it; and the calls that were not refused, asks left out,
-//! answer the same alone and leave the same run.
+//! answers what an ask answers just before it, what is missing too; and the calls that were not
+//! refused, asks left out, answer the same alone and leave the same run.
 
-use super::run::task_with_plans;
+use super::run::{put_lacking, task_with_plans};
 use super::{member, sizes::bundle};
 use crate::case::{list, Checked, Class, Comparison, Input};
 use crate::lent::Lent;
 use reference::generate::contents;
 use reference::generate::plans::{any_run, change_number, run_at_start, ticket, Bundle};
 use reference::generate::sizes::Turns;
-use reference::interface::{out_length, Interface, Ticket, CHANGE, LAST, SHARED};
+use reference::interface::{missing, out_length, Interface, Ticket, CHANGE, LAST, SHARED};
 use reference::paper::interface as paper;
 use reference::random::Random;
 
@@ -30,11 +30,15 @@ const CALLS: usize = 24;
 
 pub fn any(random: &mut Random, checked: &impl Interface) -> Checked {
     let (words, planner, bundle) = task_with_plans(random);
-    let run = match &planner {
+    let mut run = match &planner {
         Some(planner) if random.chance(30) => planner.run(random, &bundle),
         Some(planner) => run_at_start(planner.task.initial, change_number(random)),
         None => any_run(random),
     };
+    if let Some(planner) = planner.filter(|_| random.chance(35)) {
+        let member = member(random, &words);
+        put_lacking(random, &planner, &bundle, &mut run, member);
+    }
     let calls = random.between(1, CALLS);
     calls_on(random, checked, words, bundle, run, calls)
 }
@@ -99,7 +103,7 @@ fn calls_on(
     let (mut expected_run, mut found_run) = (run.clone(), Lent::new(&run));
     let (mut made, mut tickets) = (Vec::new(), Vec::new());
     // Those that are not refused, asks left out, with what they answer.
-    let mut done: Vec<(Call, u64)> = Vec::new();
+    let mut done: Vec<(Call, Vec<u64>)> = Vec::new();
     // The case counts by its last commit, or by one that collides.
     let mut class = Class::Answer(0);
     while made.len() < calls && !comparison.differs() {
@@ -122,16 +126,18 @@ fn calls_on(
         let found = call(checked, &words, &bundle, found_run.slice(), this, &mut found_out);
         comparison.answer((expected, &expected_out), found, &found_out);
         comparison.slice("run", &expected_run, &found_run);
+        let place = if matches!(this, Call::Ask(_)) { missing::ASK } else { missing::PICK };
+        comparison.lacks((expected, &expected_out), place);
         if (matches!(this, Call::Ask(_)) || found != 0) && before != found_run.held() {
             comparison.differ("an ask or a refused call changes the run".to_string());
         }
         match this {
             Call::Ask(_) if expected == 0 => {
-                let (member, change) = (expected_out[3] as u8, expected_out[4] as u32);
+                let (member, change) = (expected_out[5] as u8, expected_out[6] as u32);
                 tickets.push(Ticket { member, change });
             }
             Call::Ask(_) => {}
-            _ if found == 0 => done.push((this, found_out.held()[0])),
+            _ if found == 0 => done.push((this, found_out.held()[..out_length::PICK].to_vec())),
             _ => {}
         }
         if let Call::Commit(ticket) = this {
@@ -162,7 +168,8 @@ fn calls_on(
     })
 }
 
-/// A commit that was not refused answers what an ask answers on the run before it.
+/// A commit that was not refused answers what an ask answers on the run before it, with the same
+/// mask of what is missing.
 fn answers_as_asked(
     checked: &impl Interface,
     words: &[u64],
@@ -181,8 +188,10 @@ fn answers_as_asked(
         _ => false,
     };
     let ticket = [u64::from(member), u64::from(change)];
-    if refusal != 0 || !as_asked || asked[3..] != ticket {
-        comparison.differ(format!("a commit answers {}, asked {asked:?}", answered[0]));
+    let lacks_as_asked = answered[missing::COMMIT] == asked[missing::ASK];
+    if refusal != 0 || !as_asked || !lacks_as_asked || asked[5..] != ticket {
+        let answered = &answered[..out_length::COMMIT];
+        comparison.differ(format!("a commit answers {answered:?}, asked {asked:?}"));
     }
 }
 
@@ -192,15 +201,15 @@ fn alone(
     words: &[u64],
     bundle: &Bundle,
     run: &[u64],
-    done: &[(Call, u64)],
+    done: &[(Call, Vec<u64>)],
     left: &[u64],
     comparison: &mut Comparison,
 ) {
     let mut again = run.to_vec();
-    for (place, &(this, answer)) in done.iter().enumerate() {
-        let mut out = Lent::new(&[u64::MAX]);
-        let returned = call(checked, words, bundle, &mut again, this, &mut out);
-        if returned != 0 || out.held() != [answer] {
+    for (place, (this, answer)) in done.iter().enumerate() {
+        let mut out = Lent::new(&[u64::MAX; out_length::PICK]);
+        let returned = call(checked, words, bundle, &mut again, *this, &mut out);
+        if returned != 0 || out.held() != answer {
             comparison.differ(format!("alone, {this:?} at {place} gives another answer"));
             return;
         }

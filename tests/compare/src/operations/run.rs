@@ -1,14 +1,15 @@
 //! Joint replay, the start of a run, and picks on a run that is handed in, asked for or not.
 
-use super::step::random_out;
+use super::step::{lacks_as_the_step, random_out};
 use super::{member, task_words};
 use crate::case::{class, list, Checked, Comparison, Input};
 use crate::lent::Lent;
-use reference::generate::plans::{any_run, ticket, Bundle, Planner};
-use reference::generate::{contents, length_near};
-use reference::interface::{out_length, Interface, Ticket, RUN};
+use reference::generate::plans::{any_run, put_shared, ticket, Bundle, Planner};
+use reference::generate::{contents, lacking, length_near};
+use reference::interface::{missing, out_length, Interface, Ticket, CHANGE, RUN, SHARED};
 use reference::paper::interface as paper;
 use reference::random::Random;
+use std::ops::Range;
 
 /// A task for runs: one in which every member has a plan, where some tries find one.
 pub fn task_with_plans(random: &mut Random) -> (Vec<u64>, Option<Planner>, Bundle) {
@@ -59,6 +60,16 @@ pub fn joint_replay_on(
     let found = checked.joint_replay(&words, &plans, &ends, &picks, found_out.slice());
     let mut comparison = Comparison::new("lawcheck_joint_replay");
     comparison.answer((expected, &expected_out), found, &found_out);
+    comparison.lacks((expected, &expected_out), missing::JOINT_REPLAY);
+    if (expected, found) == (0, 0) {
+        let out = found_out.held();
+        let met = (out[0] == 1).then(|| last_step(&plans, &ends, &picks)).flatten();
+        let met = met.map(|action| (action, &out[3..5]));
+        let told = &out[missing::JOINT_REPLAY];
+        if let Err(difference) = lacks_as_the_step(checked, &words, met, told) {
+            comparison.differ(difference);
+        }
+    }
     let answer = expected_out.first().copied().unwrap_or(0);
     comparison.close(class(expected, answer), || {
         let others = vec![
@@ -69,6 +80,21 @@ pub fn joint_replay_on(
         ];
         (Input::Task(words), others)
     })
+}
+
+/// The step at a place of a member's plan.
+pub fn step_at(plans: &[u16], ends: &[u64], member: u8, place: u64) -> Option<u16> {
+    let begin = if member == 0 { 0 } else { *ends.get(member as usize - 1)? };
+    let end = *ends.get(member as usize)?;
+    let at = begin.checked_add(place).filter(|&at| at < end)?;
+    plans.get(at as usize).copied()
+}
+
+/// The step of the last of some picks of which the others went.
+pub fn last_step(plans: &[u16], ends: &[u64], picks: &[u8]) -> Option<u16> {
+    let (&last, before) = picks.split_last()?;
+    let place = before.iter().filter(|&&member| member == last).count();
+    step_at(plans, ends, last, place as u64)
 }
 
 /// A run that is handed in, and a member to pick: mostly one with a step left.
@@ -87,10 +113,30 @@ pub fn handed_in(random: &mut Random) -> Handed {
     };
     change_length(random, &mut run);
     let left = planner
+        .as_ref()
         .filter(|_| random.chance(75))
         .and_then(|planner| planner.with_step_left(random, &bundle, &run));
     let member = left.unwrap_or_else(|| member(random, &words));
+    if let Some(planner) = planner.filter(|_| random.chance(35)) {
+        put_lacking(random, &planner, &bundle, &mut run, member);
+    }
     Handed { words, bundle, run, member }
+}
+
+/// Puts a shared copy into a run that lacks what the member's next step needs, where it has one.
+pub fn put_lacking(
+    random: &mut Random,
+    planner: &Planner,
+    Bundle { plans, ends }: &Bundle,
+    run: &mut [u64],
+    member: u8,
+) {
+    let place = run.get(1 + member as usize).filter(|_| run.len() >= RUN);
+    let number = place.and_then(|&place| step_at(plans, ends, member, place));
+    if let Some(action) = number.and_then(|number| planner.task.actions.get(number as usize)) {
+        let facts = planner.task.known.count_ones() as usize;
+        put_shared(run, lacking(random, facts, action.pre, action.wait));
+    }
 }
 
 pub fn pick(random: &mut Random, checked: &impl Interface) -> Checked {
@@ -129,8 +175,9 @@ pub fn pick_on(
 ) -> Checked {
     let out = random_out(random, out_length::PICK);
     on_run(
+        checked,
         ("lawcheck_pick", "member", member.to_string()),
-        Held { words, bundle, run, out },
+        Held { words, bundle, run, member, out, missing: missing::PICK },
         |words, plans, ends, run, out| paper::pick(words, plans, ends, run, member, out),
         |words, plans, ends, run, out| checked.pick(words, plans, ends, run, member, out),
     )
@@ -147,8 +194,9 @@ pub fn ask_on(
 ) -> Checked {
     let out = random_out(random, out_length::ASK);
     on_run(
+        checked,
         ("lawcheck_ask", "member", member.to_string()),
-        Held { words, bundle, run, out },
+        Held { words, bundle, run, member, out, missing: missing::ASK },
         |words, plans, ends, run, out| paper::ask(words, plans, ends, run, member, out),
         |words, plans, ends, run, out| checked.ask(words, plans, ends, run, member, out),
     )
@@ -164,38 +212,54 @@ pub fn commit_on(
     ticket: Ticket,
 ) -> Checked {
     let out = random_out(random, out_length::COMMIT);
+    let member = ticket.member;
     on_run(
+        checked,
         ("lawcheck_commit", "ticket", format!("{ticket:?}")),
-        Held { words, bundle, run, out },
+        Held { words, bundle, run, member, out, missing: missing::COMMIT },
         |words, plans, ends, run, out| paper::commit(words, plans, ends, run, ticket, out),
         |words, plans, ends, run, out| checked.commit(words, plans, ends, run, ticket, out),
     )
 }
 
-/// What a call on a run is handed beside a member or a ticket.
+/// What a call on a run is handed, and where it tells what is missing.
 struct Held {
     words: Vec<u64>,
     bundle: Bundle,
     run: Vec<u64>,
+    member: u8,
     out: Vec<u64>,
+    missing: Range<usize>,
 }
 
 /// A call on a run, by the paper and as it is to be checked; named with the argument's name and
 /// text.
 fn on_run(
+    checked: &impl Interface,
     (function, argument, text): (&'static str, &'static str, String),
     held: Held,
     paper: impl Fn(&[u64], &[u16], &[u64], &mut [u64], &mut [u64]) -> u64,
-    checked: impl Fn(&[u64], &[u16], &[u64], &mut [u64], &mut [u64]) -> u64,
+    call: impl Fn(&[u64], &[u16], &[u64], &mut [u64], &mut [u64]) -> u64,
 ) -> Checked {
-    let Held { words, bundle: Bundle { plans, ends }, run, out } = held;
+    let Held { words, bundle: Bundle { plans, ends }, run, member, out, missing } = held;
     let (mut expected_run, mut expected_out) = (run.clone(), out.clone());
     let expected = paper(&words, &plans, &ends, &mut expected_run, &mut expected_out);
     let (mut found_run, mut found_out) = (Lent::new(&run), Lent::new(&out));
-    let found = checked(&words, &plans, &ends, found_run.slice(), found_out.slice());
+    let found = call(&words, &plans, &ends, found_run.slice(), found_out.slice());
     let mut comparison = Comparison::new(function);
     comparison.answer((expected, &expected_out), found, &found_out);
     comparison.slice("run", &expected_run, &found_run);
+    comparison.lacks((expected, &expected_out), missing.clone());
+    if (expected, found) == (0, 0) {
+        let told = found_out.held();
+        // A pick that collides tells 1, an ask 2.
+        let collides = told[0] == if missing == missing::ASK { 2 } else { 1 };
+        let action = step_at(&plans, &ends, member, run[1 + member as usize]);
+        let met = action.filter(|_| collides).map(|action| (action, &run[SHARED..CHANGE]));
+        if let Err(difference) = lacks_as_the_step(checked, &words, met, &told[missing]) {
+            comparison.differ(difference);
+        }
+    }
     let answer = expected_out.first().copied().unwrap_or(0);
     comparison.close(class(expected, answer), || {
         let others = vec![
@@ -238,6 +302,9 @@ pub fn play(random: &mut Random, checked: &impl Interface) -> Checked {
     change_length(random, &mut run);
     for _ in 0..random.below(4) {
         picks.insert(random.below(picks.len() + 1), member(random, &words));
+    }
+    if let (Some(planner), Some(&first)) = (planner.filter(|_| random.chance(35)), picks.first()) {
+        put_lacking(random, &planner, &bundle, &mut run, first);
     }
     let length = length_near(random, picks.len());
     let answers = contents(random, length);

@@ -6,9 +6,9 @@ use crate::case::{Checked, Class};
 use reference::generate::families::counters;
 use reference::generate::plans::{change_number, put_shared, run_at_start, Bundle};
 use reference::generate::sizes::{
-    amid, beside, digits, doubled, fault_after, fault_before, forest, last_action, last_fact,
-    last_fact_of_two, last_unsolvable, odometer, odometer_past, padded, records, scattered, sizes,
-    tree, winder, zigzag, Back, Fault, Tree, Turns, Wants,
+    amid, beside, digits, doubled, fault_after, fault_before, forest, lacking, last_action,
+    last_fact, last_fact_of_two, last_unsolvable, odometer, odometer_past, padded, records,
+    scattered, sizes, tree, winder, zigzag, Back, Fault, Tree, Turns, Wants,
 };
 use reference::generate::{contents, shuffle, some, text, Law};
 use reference::interface::{
@@ -129,12 +129,18 @@ enum Made {
     VerdictFacts,
     VerdictLocalWords,
     VerdictWords,
+    StepMissing,
+    JointMissing,
+    PickMissing,
+    AskMissing,
+    CommitMissing,
+    VerdictMissing,
 }
 use Made::*;
 
 /// Everything that a case is made for, with the largest size. What is new comes last, so that the
 /// other cases keep their numbers.
-const MADE: [(Made, usize); 96] = [
+const MADE: [(Made, usize); 102] = [
     (TaskFacts, FACTS),
     (TaskFactAbove, FACTS - 1),
     (TaskMembers, MEMBERS),
@@ -231,6 +237,12 @@ const MADE: [(Made, usize); 96] = [
     (VerdictFacts, FACTS),
     (VerdictLocalWords, SLOW),
     (VerdictWords, SLOW),
+    (StepMissing, FACTS),
+    (JointMissing, FACTS),
+    (PickMissing, FACTS),
+    (AskMissing, FACTS),
+    (CommitMissing, FACTS),
+    (VerdictMissing, FACTS),
 ];
 
 /// Every case that is made for a size, in turn.
@@ -495,6 +507,8 @@ impl Made {
             }
             SoloFacts | SearchFacts | JointFacts | PickFacts | CommitFacts | PlayFacts
             | VerdictFacts => self.facts(size, random, checked),
+            StepMissing | JointMissing | PickMissing | AskMissing | CommitMissing
+            | VerdictMissing => self.missing(size, random, checked),
             // A table of so many words: just enough, or where the number is odd one too few.
             SearchWords => {
                 let words = odometer(size.div_ceil(MASK)).words();
@@ -539,6 +553,26 @@ impl Made {
                 run::play_on(checked, words, plans, start, picks, answers)
             }
             _ => judged(random, checked, law, [8, 16]),
+        }
+    }
+
+    /// A collision that lacks so many facts.
+    fn missing(self, size: usize, random: &mut Random, checked: &impl Interface) -> Checked {
+        let law = lacking(random, size);
+        let (words, plans) = (law.words(), bundle(vec![vec![0], vec![1]]));
+        let shared = law.initial & !law.actions[0][4];
+        let mut run = run_at_start(shared, 1);
+        run[1] = 1;
+        match self {
+            StepMissing => step::step_on(random, checked, words, 1, mask_words(shared).to_vec()),
+            JointMissing => run::joint_replay_on(random, checked, words, plans, vec![0, 1]),
+            PickMissing => run::pick_on(random, checked, words, plans, run, 1),
+            AskMissing => run::ask_on(random, checked, words, plans, run, 1),
+            CommitMissing => {
+                let ticket = Ticket { member: 1, change: 1 };
+                run::commit_on(random, checked, words, plans, run, ticket)
+            }
+            _ => judged(random, checked, law, [4, 8]),
         }
     }
 

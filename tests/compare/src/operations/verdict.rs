@@ -1,16 +1,18 @@
 //! The verdict: its numbers, tables and conflict, that conflict's replay in both implementations,
 //! runs played to the finish where it is robust, and brute force beside it where a law is small.
 
-use super::step::random_out;
+use super::run::last_step;
+use super::step::{lacks_as_the_step, random_out};
 use super::task_words;
 use crate::case::{list, Checked, Comparison, Input};
 use crate::lent::Lent;
 use reference::brute;
-use reference::fast::{count_configurations, Copies};
+use reference::fast::{count_configurations, Copies, Judged};
 use reference::generate::plans::{Bundle, Planner};
 use reference::generate::{contents, length_near};
-use reference::interface::{give, out_length, Interface, MASK, TOO_SHORT};
+use reference::interface::{give, missing, out_length, Interface, MASK, TOO_SHORT};
 use reference::paper::conflict::Conflict;
+use reference::paper::facts::Facts;
 use reference::paper::interface::{outcome_numbers, verdict_numbers};
 use reference::paper::run::{joint_replay, Outcome};
 use reference::paper::task::check;
@@ -221,6 +223,7 @@ pub fn verdict_on(
     let mut comparison = Comparison::new("lawcheck_verdict");
     let refusal = answer.as_ref().err().copied().unwrap_or(0);
     comparison.answer((refusal, &expected.out), returned, &found.out);
+    comparison.lacks((refusal, &expected.out), missing::VERDICT);
     comparison.slice("local", &expected.local, &found.local);
     comparison.slice("marks", &expected.marks, &found.marks);
     comparison.slice("configurations", &expected.configurations, &found.configurations);
@@ -244,8 +247,7 @@ pub fn verdict_on(
     let beside = small && (not_robust || random.chance(25));
     if refusal == 0 && returned == 0 && beside {
         comparison.brute = true;
-        let out = found.out.held();
-        let numbers = [out[0], out[1], out[2]];
+        let numbers = *found.out.held().first_chunk().expect("an answer's numbers");
         if let Err(difference) = beside_brute_force(&words, numbers, found.ends.held()) {
             comparison.differ(difference);
         }
@@ -283,7 +285,8 @@ fn stated(out: &[u64]) -> Option<Outcome> {
 }
 
 /// A conflict by its replay: the paper's own has to be as every conflict is, and the one that was
-/// found has to end as told in the joint replay of the implementation that found it.
+/// found has to end as told in the joint replay of the implementation that found it, and lack what
+/// is told there and by its step.
 fn replays(
     words: &[u64],
     listed: usize,
@@ -295,7 +298,7 @@ fn replays(
     let members = words[1] as usize;
     let Slices { out, plans, ends, picks, .. } = expected;
     let outcome = stated(out).ok_or("the second implementation's numbers are no fault's")?;
-    Conflict { outcome, done: out[2], plans, ends, picks }
+    Conflict { outcome, done: out[2], missing: [out[3], out[4]], plans, ends, picks }
         .check(words, members, listed)
         .map_err(|difference| format!("the second implementation's conflict: {difference}"))?;
     let (out, plans) = (found.out.held(), found.plans.held());
@@ -303,17 +306,22 @@ fn replays(
     let (0, Some(outcome)) = (returned, stated(out)) else {
         return Err("the law is not robust".into());
     };
-    let conflict = Conflict { outcome, done: out[2], plans, ends, picks };
+    let told = &out[missing::VERDICT];
+    let conflict =
+        Conflict { outcome, done: out[2], missing: [told[0], told[1]], plans, ends, picks };
     let (plans, ends, picks) =
         conflict.replayed(members).ok_or("the conflict goes past its slices")?;
     let mut replayed = [0; out_length::JOINT_REPLAY];
     let refusal = checked.joint_replay(words, plans, ends, picks, &mut replayed);
     let (kind, member) = outcome_numbers(outcome);
-    if refusal != 0 || replayed[..3] != [kind, member, out[2]] {
+    let ends_so = replayed[..3] == [kind, member, out[2]];
+    if refusal != 0 || !ends_so || replayed[missing::JOINT_REPLAY] != *told {
         let text = list(&replayed);
         return Err(format!("its own replay of the conflict: returns {refusal}, out {text}"));
     }
-    Ok(())
+    let action = last_step(plans, ends, picks).filter(|_| outcome == Outcome::Collision);
+    let met = action.map(|action| (action, &replayed[3..5]));
+    lacks_as_the_step(checked, words, met, told)
 }
 
 /// Some runs of a law that was found robust, played to the finish: each has to be a success.
@@ -336,8 +344,8 @@ fn beside_played_runs(random: &mut Random, words: &[u64]) -> Result<(), String> 
 }
 
 /// Brute force over short plans against the numbers of a verdict and the ends of its plans: the
-/// class, and that no run comes to a fault after fewer picks.
-pub fn beside_brute_force(words: &[u64], out: [u64; 3], ends: &[u64]) -> Result<(), String> {
+/// class, that no run comes to a fault after fewer picks, and that one lacks what is told.
+pub fn beside_brute_force(words: &[u64], out: Judged, ends: &[u64]) -> Result<(), String> {
     let task = check(words).map_err(|refusal| format!("refused with {refusal}"))?;
     let longest = if task.members() <= 2 { 4 } else { 3 };
     if out[0] == 1 {
@@ -365,8 +373,10 @@ pub fn beside_brute_force(words: &[u64], out: [u64; 3], ends: &[u64]) -> Result<
     let begins = [&[0], ends].concat();
     let short =
         ends.iter().zip(begins).all(|(end, begin)| end.saturating_sub(begin) <= longest as u64);
-    if short && outcomes.get(&outcome) != Some(&told) {
-        return Err(format!("brute force does not find {outcome:?} after {told} picks"));
+    let missing = Facts::of_words(&out[missing::VERDICT]);
+    if short && outcomes.get(&(outcome, missing.clone())) != Some(&told) {
+        let text = format!("{outcome:?} after {told} picks for want of {missing:?}");
+        return Err(format!("brute force does not find {text}"));
     }
     Ok(())
 }

@@ -10,7 +10,7 @@ pub mod verdict;
 pub use run::{joint_replay, outcome, Outcome, Plans};
 pub use solo::{copies, Copies, DEAD};
 pub use text::read_words;
-pub use verdict::count_configurations;
+pub use verdict::{count_configurations, Judged};
 
 use crate::interface::{
     give, mask_of, mask_words, no_run, out_length, Interface, Pddl, Ticket, FACTS, MASK, ROW, RUN,
@@ -36,7 +36,12 @@ impl Action {
 
     /// Every precondition holds.
     pub fn applicable(&self, state: u128) -> bool {
-        self.pre & !state == 0
+        self.missing(state) == 0
+    }
+
+    /// The preconditions that do not hold.
+    pub fn missing(&self, state: u128) -> u128 {
+        self.pre & !state
     }
 
     /// A precondition that is waited for does not hold.
@@ -140,7 +145,7 @@ pub struct Fast;
 
 /// The fast twin by its verdict and its solo search: the other operations are the same for all.
 pub trait Twin: Sync {
-    fn judge(&self, task: &[u64], lent: &mut verdict::Lent) -> Result<[u64; 3], u64>;
+    fn judge(&self, task: &[u64], lent: &mut verdict::Lent) -> Result<Judged, u64>;
 
     fn search(
         &self,
@@ -154,7 +159,7 @@ pub trait Twin: Sync {
 }
 
 impl Twin for Fast {
-    fn judge(&self, task: &[u64], lent: &mut verdict::Lent) -> Result<[u64; 3], u64> {
+    fn judge(&self, task: &[u64], lent: &mut verdict::Lent) -> Result<Judged, u64> {
         verdict::verdict_by::<verdict::Right>(task, lent)
     }
 }
@@ -323,18 +328,42 @@ impl Pddl for Fast {
     }
 }
 
-fn step(task: &[u64], action: u16, shared: u128) -> Result<[u64; 3], u64> {
+fn step(task: &[u64], action: u16, shared: u128) -> Result<[u64; out_length::STEP], u64> {
     let task = Task::check(task)?;
     let action = task.actions.get(action as usize).ok_or(7u64)?;
     if shared & !task.known != 0 {
         return Err(4);
     }
-    Ok(if action.waits(shared) {
-        [1, 0, 0]
-    } else if !action.applicable(shared) {
-        [2, 0, 0]
-    } else {
-        let [low, high] = mask_words(action.apply(shared));
-        [0, low, high]
-    })
+    Ok(Next::of(action, shared).numbers())
+}
+
+/// What a step does at a shared copy.
+enum Next {
+    Go(u128),
+    Wait,
+    /// The preconditions that are missing.
+    Collision(u128),
+}
+
+impl Next {
+    fn of(action: &Action, shared: u128) -> Next {
+        if action.waits(shared) {
+            Next::Wait
+        } else if !action.applicable(shared) {
+            Next::Collision(action.missing(shared))
+        } else {
+            Next::Go(action.apply(shared))
+        }
+    }
+
+    /// Its kind, the new shared copy and what is missing.
+    fn numbers(&self) -> [u64; out_length::STEP] {
+        let (kind, new, missing) = match *self {
+            Next::Go(new) => (0, new, 0),
+            Next::Wait => (1, 0, 0),
+            Next::Collision(missing) => (2, 0, missing),
+        };
+        let ([new_low, new_high], [low, high]) = (mask_words(new), mask_words(missing));
+        [kind, new_low, new_high, low, high]
+    }
 }

@@ -1,8 +1,8 @@
 //! Joint replay, and picks on a run that is handed in.
 
 use super::solo::{entries, play};
-use super::{Action, Task};
-use crate::interface::{mask_of, mask_words, Ticket, CHANGE, LAST, RUN, SHARED};
+use super::{Action, Next, Task};
+use crate::interface::{mask_of, mask_words, out_length, Ticket, CHANGE, LAST, RUN, SHARED};
 
 /// Checked plans: each member's part of the plan slice.
 pub struct Plans<'a>(pub Vec<&'a [u16]>);
@@ -80,40 +80,39 @@ pub fn joint_replay(
     plans: &[u16],
     ends: &[u64],
     picks: &[u8],
-) -> Result<[u64; 5], u64> {
+) -> Result<[u64; out_length::JOINT_REPLAY], u64> {
     let task = Task::check(task)?;
     let plans = Plans::check(&task, plans, ends)?;
     let mut places = [0; 8];
     let mut shared = task.initial;
     let mut done = 0;
-    let mut collided = false;
+    let mut missing = 0;
     for &member in picks {
         let member = member as usize;
         if member >= task.members() {
             return Err(8);
         }
         match plans.next(&task, &places, member) {
-            Some(action) if !collided && !action.waits(shared) => {
-                if action.applicable(shared) {
+            Some(action) if missing == 0 && !action.waits(shared) => {
+                missing = action.missing(shared);
+                if missing == 0 {
                     shared = action.apply(shared);
                     places[member] += 1;
                     done += 1;
-                } else {
-                    collided = true;
                 }
             }
             _ => return Err(13),
         }
     }
-    let (kind, member) = match outcome(&task, &plans, &places, shared, collided) {
+    let (kind, member) = match outcome(&task, &plans, &places, shared, missing != 0) {
         Outcome::Success => (0, 0),
         Outcome::Collision => (1, 0),
         Outcome::Deadlock => (2, 0),
         Outcome::Missed(member) => (3, member as u64),
         Outcome::Open => (4, 0),
     };
-    let [low, high] = mask_words(shared);
-    Ok([kind, member, done, low, high])
+    let ([shared_low, shared_high], [low, high]) = (mask_words(shared), mask_words(missing));
+    Ok([kind, member, done, shared_low, shared_high, low, high])
 }
 
 /// A run that is handed in, on checked plans.
@@ -124,13 +123,6 @@ struct Held<'a> {
     shared: u128,
     change: u32,
     collided: bool,
-}
-
-/// What a step would do.
-enum Next {
-    Go(u128),
-    Wait,
-    Collision,
 }
 
 impl<'a> Held<'a> {
@@ -158,19 +150,14 @@ impl<'a> Held<'a> {
             return Err(8);
         }
         match self.plans.next(&self.task, &self.places, member as usize) {
-            Some(action) if !self.collided => Ok(if action.waits(self.shared) {
-                Next::Wait
-            } else if !action.applicable(self.shared) {
-                Next::Collision
-            } else {
-                Next::Go(action.apply(self.shared))
-            }),
+            Some(action) if !self.collided => Ok(Next::of(action, self.shared)),
             _ => Err(13),
         }
     }
 
-    /// A pick: 0 go, 1 collision. With a ticket's change number that has to be the run's.
-    fn pick(&mut self, member: u8, change: Option<u32>) -> Result<u64, u64> {
+    /// A pick: 0 go, 1 collision with what is missing. With a ticket's change number that has to be
+    /// the run's.
+    fn pick(&mut self, member: u8, change: Option<u32>) -> Result<[u64; out_length::PICK], u64> {
         let stale = change.is_some_and(|change| change != self.change);
         match self.next(member) {
             Err(8) => Err(8),
@@ -182,12 +169,13 @@ impl<'a> Held<'a> {
                 self.shared = shared;
                 self.places[member as usize] += 1;
                 self.change += 1;
-                Ok(0)
+                Ok([0, 0, 0])
             }
-            Ok(Next::Collision) => {
+            Ok(Next::Collision(missing)) => {
                 self.collided = true;
                 self.change += 1;
-                Ok(1)
+                let [low, high] = mask_words(missing);
+                Ok([1, low, high])
             }
         }
     }
@@ -208,11 +196,11 @@ pub(super) fn pick(
     ends: &[u64],
     run: &mut [u64],
     member: u8,
-) -> Result<[u64; 1], u64> {
+) -> Result<[u64; out_length::PICK], u64> {
     let mut held = Held::check(task, plans, ends, run)?;
     let answer = held.pick(member, None)?;
     held.write(run);
-    Ok([answer])
+    Ok(answer)
 }
 
 pub(super) fn ask(
@@ -221,15 +209,10 @@ pub(super) fn ask(
     ends: &[u64],
     run: &[u64],
     member: u8,
-) -> Result<[u64; 5], u64> {
+) -> Result<[u64; out_length::ASK], u64> {
     let held = Held::check(task, plans, ends, run)?;
-    let (kind, shared) = match held.next(member)? {
-        Next::Go(shared) => (0, shared),
-        Next::Wait => (1, 0),
-        Next::Collision => (2, 0),
-    };
-    let [low, high] = mask_words(shared);
-    Ok([kind, low, high, member as u64, held.change as u64])
+    let [kind, new_low, new_high, low, high] = held.next(member)?.numbers();
+    Ok([kind, new_low, new_high, low, high, member as u64, held.change as u64])
 }
 
 pub(super) fn commit(
@@ -238,11 +221,11 @@ pub(super) fn commit(
     ends: &[u64],
     run: &mut [u64],
     ticket: Ticket,
-) -> Result<[u64; 1], u64> {
+) -> Result<[u64; out_length::COMMIT], u64> {
     let mut held = Held::check(task, plans, ends, run)?;
     let answer = held.pick(ticket.member, Some(ticket.change))?;
     held.write(run);
-    Ok([answer])
+    Ok(answer)
 }
 
 pub(super) fn start(task: &[u64], run: &mut [u64]) -> Result<[u64; 0], u64> {
@@ -262,7 +245,7 @@ pub(super) fn play_picks(
 ) -> Result<[u64; 0], u64> {
     let mut held = Held::check(task, plans, ends, run)?;
     for (&member, answer) in picks.iter().zip(answers) {
-        *answer = held.pick(member, None).unwrap_or_else(|refusal| refusal);
+        *answer = held.pick(member, None).map_or_else(|refusal| refusal, |[kind, ..]| kind);
     }
     held.write(run);
     Ok([])

@@ -8,13 +8,14 @@ use crate::random::Random;
 
 /// A small law, for which every operation is quick.
 pub fn small(random: &mut Random) -> Vec<u64> {
-    let law = match random.below(12) {
+    let law = match random.below(15) {
         0..=2 => tiny(random),
         3..=4 => any(random, 5, 3, 8),
         5..=6 => tokens(random, 3, 2),
         7 => near_the_laws(random),
         8 => chains(random, 3, 4),
         9..=10 => choices(random),
+        11..=13 => needs(random),
         _ => {
             let law = tokens(random, 2, 2);
             widened(random, law, 16, 4, 16)
@@ -198,6 +199,55 @@ pub fn choices(random: &mut Random) -> Law {
         for _ in 0..random.between(1, 4) {
             let (from, to) = (random.below(places), random.below(places));
             step(random, from, to);
+        }
+    }
+    shuffle(random, &mut law.actions);
+    law
+}
+
+/// Members who each have a step or two that need some of the facts, any number of them, and wait
+/// for some of these, and a step that takes one fact away, two or many: collisions that lack as
+/// many. Those that need are mostly a member's way to its goal, one of the last facts.
+pub fn needs(random: &mut Random) -> Law {
+    let members = random.one_of(&[2, 2, 2, 3]);
+    let any = random.between(members + 1, FACTS);
+    let all_facts = random.one_of(&[members + 2, 8, 16, 64, 65, FACTS, any]);
+    let goals: Vec<u128> = (1..=members).map(|member| 1 << (all_facts - member)).collect();
+    let facts = all_facts - members;
+    let initial = if random.chance(50) { all(facts) } else { some(random, facts) };
+    let mut law = Law { facts: all_facts, initial, goals, actions: Vec::new() };
+    for member in 0..members {
+        let (number, adds) = (member as u128, few(random, facts, 2));
+        for _ in 0..random.between(1, 2) {
+            let own = initial | adds;
+            let need = match random.below(4) {
+                0 => few(random, facts, 3) & own,
+                1 => own,
+                _ => some(random, facts) & own,
+            };
+            let wait = match random.below(6) {
+                0 => need,
+                1 => few(random, facts, 3) & need,
+                2 => some(random, facts) & some(random, facts) & need,
+                // Those of one word.
+                3 => all(facts.min(64)) & need,
+                4 => !all(facts.min(64)) & need,
+                _ => 0,
+            };
+            law.actions.push([number, need, wait, law.goals[member], 0]);
+        }
+        let takes = match random.below(4) {
+            0 => 1 << random.below(facts),
+            1 => few(random, facts, 2),
+            2 => all(facts),
+            _ => some(random, facts),
+        };
+        law.actions.push([number, 0, 0, adds, takes & !adds]);
+        if random.chance(15) {
+            law.actions.push([number, 0, 0, some(random, facts), 0]);
+        }
+        if random.chance(30) {
+            law.goals[member] = 0;
         }
     }
     shuffle(random, &mut law.actions);

@@ -27,6 +27,24 @@ pub fn some(random: &mut Random, facts: usize) -> u128 {
     }
 }
 
+/// One fact of a mask, two or more, as far as it has them.
+fn some_of(random: &mut Random, mask: u128) -> u128 {
+    let facts: Vec<u32> = (0..u128::BITS).filter(|fact| mask >> fact & 1 == 1).collect();
+    if facts.is_empty() {
+        return 0;
+    }
+    let many = random.below(facts.len() + 1);
+    let number = random.one_of(&[1, 1, 2, 2, 3, many, 4 * facts.len()]);
+    (0..number).fold(0, |some, _| some | 1 << random.one_of(&facts))
+}
+
+/// A copy that lacks some of these preconditions, mostly none of those that are waited for.
+pub fn lacking(random: &mut Random, facts: usize, pre: u128, wait: u128) -> u128 {
+    let lost = some_of(random, pre);
+    let kept = if random.chance(80) { wait } else { 0 };
+    pre & !lost | kept | some(random, facts) & !pre
+}
+
 /// Any order of the items.
 pub fn shuffle<T>(random: &mut Random, items: &mut [T]) {
     for last in (1..items.len()).rev() {

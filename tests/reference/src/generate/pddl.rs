@@ -797,6 +797,8 @@ pub fn any_text(random: &mut Random) -> (Vec<u8>, Vec<u8>) {
     match random.below(20) {
         0..=3 => damage_pieces(random, &mut pieces),
         4 | 5 => near_miss(random, &mut pieces),
+        // No member.
+        6 if random.chance(5) => pieces.clear(),
         _ => {}
     }
     let spelling = any_spelling(random);

@@ -224,6 +224,26 @@ pub fn last_fact_of_two(random: &mut Random, facts: usize) -> Law {
     }
 }
 
+/// Two members without goals. Member 0's step takes so many facts away, the first ones or any; the
+/// one step of member 1 needs them and some others, and waits for some of these, so that it
+/// collides then for want of just so many.
+pub fn lacking(random: &mut Random, missing: usize) -> Law {
+    let any = random.between(missing, FACTS);
+    let mut places: Vec<usize> = (0..random.one_of(&[missing, FACTS, any])).collect();
+    if random.chance(50) {
+        shuffle(random, &mut places);
+    }
+    let taken = places[..missing].iter().fold(0, |mask, place| mask | 1 << place);
+    let others = some(random, places.len()) & !taken;
+    let wait = random.one_of(&[0, others]) & some(random, places.len());
+    Law {
+        facts: places.len(),
+        initial: all(places.len()),
+        goals: vec![0, 0],
+        actions: vec![[0, 0, 0, 0, taken], [1, taken | others, wait, 0, 0]],
+    }
+}
+
 /// Members of whom the last alone has no plan.
 pub fn last_unsolvable(members: usize) -> Law {
     let mut goals = vec![1; members - 1];

@@ -54,6 +54,11 @@ impl Facts {
         self.0.iter().all(|fact| other.0.contains(fact))
     }
 
+    /// Those that are not in the other.
+    pub fn without(&self, other: &Facts) -> Facts {
+        Facts(self.0.iter().copied().filter(|fact| !other.0.contains(fact)).collect())
+    }
+
     /// The set without `del`, then with `add`.
     pub fn after(&self, add: &Facts, del: &Facts) -> Facts {
         let mut facts = self.0.clone();

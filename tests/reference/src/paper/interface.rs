@@ -1,7 +1,7 @@
 //! The operations as the C interface lends them: a refusal number or 0, and the answer's numbers in
 //! `out`. The verdict stands apart, with its many slices.
 
-use super::facts::MASK;
+use super::facts::{Facts, MASK};
 use super::run::{self, Outcome, Pick};
 use super::solo::{self, Found, Replay};
 use super::step::{self, Step};
@@ -20,27 +20,40 @@ pub fn outcome_numbers(outcome: Outcome) -> (u64, u64) {
     }
 }
 
-/// The numbers of a verdict.
-pub fn verdict_numbers(class: &Class) -> [u64; 3] {
-    match *class {
-        Class::Robust(count) => [0, 0, count as u64],
-        Class::Unsolvable(member) => [1, member as u64, 0],
-        Class::NotRobust(_, outcome, done) => {
-            let (kind, member) = outcome_numbers(outcome);
-            [kind + 1, member, done as u64]
+/// The numbers of a verdict: its kind, member and number, and the two words of what is missing.
+pub fn verdict_numbers(class: &Class) -> [u64; out_length::VERDICT] {
+    match class {
+        Class::Robust(count) => [0, 0, *count as u64, 0, 0],
+        Class::Unsolvable(member) => [1, *member as u64, 0, 0, 0],
+        Class::NotRobust(_, outcome, done, missing) => {
+            let (kind, member) = outcome_numbers(*outcome);
+            let [low, high] = missing.words();
+            [kind + 1, member, *done as u64, low, high]
         }
     }
 }
 
-/// The numbers of a step's answer: its kind, and the two words of the new shared copy.
+/// The numbers of a step's answer: its kind, the two words of the new shared copy, and the two
+/// words of what is missing.
 fn step_numbers(answer: &Step) -> [u64; out_length::STEP] {
+    let none = Facts::default();
+    let (kind, new, missing) = match answer {
+        Step::Go(new) => (0, new, &none),
+        Step::Wait => (1, &none, &none),
+        Step::Collision(missing) => (2, &none, missing),
+    };
+    let ([new_low, new_high], [low, high]) = (new.words(), missing.words());
+    [kind, new_low, new_high, low, high]
+}
+
+/// The numbers of a pick's answer: its kind, and the two words of what is missing.
+fn pick_numbers(answer: &Pick) -> [u64; out_length::PICK] {
     match answer {
-        Step::Go(new) => {
-            let [low, high] = new.words();
-            [0, low, high]
+        Pick::Go => [0, 0, 0],
+        Pick::Collision(missing) => {
+            let [low, high] = missing.words();
+            [1, low, high]
         }
-        Step::Wait => [1, 0, 0],
-        Step::Collision => [2, 0, 0],
     }
 }
 
@@ -102,8 +115,9 @@ pub fn joint_replay(
         Err(refusal) => refusal,
         Ok(replay) => {
             let (kind, member) = outcome_numbers(replay.outcome);
-            let [low, high] = replay.shared.words();
-            give(out, &[kind, member, replay.done as u64, low, high])
+            let [shared_low, shared_high] = replay.shared.words();
+            let [low, high] = replay.missing.words();
+            give(out, &[kind, member, replay.done as u64, shared_low, shared_high, low, high])
         }
     }
 }
@@ -121,8 +135,7 @@ pub fn pick(
     }
     match run::pick(words, plans, ends, &mut run[..RUN], member) {
         Err(refusal) => refusal,
-        Ok(Pick::Go) => give(out, &[0]),
-        Ok(Pick::Collision) => give(out, &[1]),
+        Ok(answer) => give(out, &pick_numbers(&answer)),
     }
 }
 
@@ -140,8 +153,8 @@ pub fn ask(
     match run::ask(words, plans, ends, &run[..RUN], member) {
         Err(refusal) => refusal,
         Ok((answer, Ticket { member, change })) => {
-            let [kind, low, high] = step_numbers(&answer);
-            give(out, &[kind, low, high, member as u64, change as u64])
+            let [kind, new_low, new_high, low, high] = step_numbers(&answer);
+            give(out, &[kind, new_low, new_high, low, high, member as u64, change as u64])
         }
     }
 }
@@ -159,8 +172,7 @@ pub fn commit(
     }
     match run::commit(words, plans, ends, &mut run[..RUN], ticket) {
         Err(refusal) => refusal,
-        Ok(Pick::Go) => give(out, &[0]),
-        Ok(Pick::Collision) => give(out, &[1]),
+        Ok(answer) => give(out, &pick_numbers(&answer)),
     }
 }
 
@@ -187,8 +199,7 @@ pub fn play(
         Ok(told) => {
             for (answer, told) in answers.iter_mut().zip(told) {
                 *answer = match told {
-                    Ok(Pick::Go) => 0,
-                    Ok(Pick::Collision) => 1,
+                    Ok(answer) => pick_numbers(&answer)[0],
                     Err(refusal) => refusal,
                 };
             }

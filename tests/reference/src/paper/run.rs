@@ -17,10 +17,11 @@ pub struct Run {
 }
 
 /// What a pick does.
-#[derive(Clone, Copy, Debug, PartialEq, Eq)]
+#[derive(Clone, Debug, PartialEq, Eq)]
 pub enum Pick {
     Go,
-    Collision,
+    /// What its step's answer tells as missing.
+    Collision(Facts),
 }
 
 /// How a run stands.
@@ -63,9 +64,9 @@ impl Run {
         }
         match self.next(task, plans, member) {
             None | Some(Step::Wait) => Err(13),
-            Some(Step::Collision) => {
+            Some(Step::Collision(missing)) => {
                 self.collided = true;
-                Ok(Pick::Collision)
+                Ok(Pick::Collision(missing))
             }
             Some(Step::Go(new)) => {
                 self.shared = new;
@@ -127,6 +128,8 @@ pub struct Replayed {
     pub outcome: Outcome,
     pub done: usize,
     pub shared: Facts,
+    /// What the colliding pick told as missing; none where no pick collided.
+    pub missing: Facts,
 }
 
 /// The operation joint replay.
@@ -140,12 +143,14 @@ pub fn joint_replay(
     let plans = plans(&task, plan_slice, ends)?;
     let mut run = Run::start(&task);
     let mut done = 0;
+    let mut missing = Facts::default();
     for &member in picks {
-        if run.pick(&task, &plans, member)? == Pick::Go {
-            done += 1;
+        match run.pick(&task, &plans, member)? {
+            Pick::Go => done += 1,
+            Pick::Collision(lacked) => missing = lacked,
         }
     }
-    Ok(Replayed { outcome: run.outcome(&task, &plans), done, shared: run.shared })
+    Ok(Replayed { outcome: run.outcome(&task, &plans), done, shared: run.shared, missing })
 }
 
 /// The dispatcher's run, with the count of the picks that were done on it.

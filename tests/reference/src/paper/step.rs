@@ -9,15 +9,16 @@ use super::Refusal;
 pub enum Step {
     Go(Facts),
     Wait,
-    Collision,
+    /// The missing preconditions, which are never none.
+    Collision(Facts),
 }
 
-/// The one rule: wait, else collision, else go with the new state.
+/// The one rule: wait, else collision with what is missing, else go with the new state.
 pub fn step(action: &Action, shared: &Facts) -> Step {
     if !action.wait.within(shared) {
         Step::Wait
     } else if !action.pre.within(shared) {
-        Step::Collision
+        Step::Collision(action.pre.without(shared))
     } else {
         Step::Go(shared.after(&action.add, &action.del))
     }
