@@ -1,15 +1,15 @@
 -- What a collision tells (request F-6) are just the preconditions that are missing, and there are some. Assumes nothing.
 use mathlib.Core.Path.{_≡_, refl, sym, ap, subst, _∙_}
-use mathlib.Core.Bool.{Bool, true, false, not, _&&_}
+use mathlib.Core.Bool.{true, not, _&&_}
 use mathlib.Core.List.{List}
 use Prim.Native.Nat.{ℕ}
-use borrow.Author.Tests.{not-true, not-false}
+use borrow.Author.Tests.{not-true}
 use Rattle.semantics.specs.Base.{Answer, refused, gives}
 use Rattle.semantics.specs.Mask.{has}
 use Rattle.semantics.specs.Task.{pre, wait, members}
 use Rattle.semantics.specs.System.{system, waits}
 use Rattle.semantics.specs.Step.{Decision, routine, stepRefusal, step}
-use Rattle.semantics.specs.Run.{Run, Fault, Reply, Replied, Outcome, failure, Replay, advance, plansOf, jointReplay}
+use Rattle.semantics.specs.Run.{Run, Reply, Replied, Outcome, Replay, advance, plansOf, jointReplay}
 use Rattle.semantics.specs.Dispatch.{Numbered, Ticket, Asked, ticketed, nextStep, askOn, pickNumbered, commitOn}
 use Rattle.semantics.specs.Model.{FactSet, _⊆_, World, Collides, collides, unmet, Lacks}
 use Rattle.semantics.specs.Demands.{factsOf, setting, worldIn, OutcomeOf, Ends, ticketOf, does, Missing, PendingMisses}
