@@ -2,6 +2,8 @@
 // Each function returns the refusal, or 0 for an answer, whose numbers go to the front of `out`; a
 // slice shorter than stated, or a change number of more than 32 bits, is refused with 14 before
 // anything else.
+
+#![tactic(auto)]
 ghost use Rattle.std.specs.Prelude.{◌≡◌, not, ◌||◌, length, eqb, ltb};
 ghost use Rattle.semantics.specs.Verdict.{lent_of};
 ghost use Rattle.semantics.specs.Task.{check};

@@ -1,5 +1,7 @@
 // The C interface's numbers: what each answer is as numbers, and numbers put to the front of a
 // slice.
+
+#![tactic(auto)]
 ghost use Rattle.std.specs.Prelude.{◌≡◌, ◌∷◌, ◌≤◌, length};
 ghost use Rattle.semantics.specs.Base.{front};
 ghost use Rattle.semantics.specs.Words.{words_of};

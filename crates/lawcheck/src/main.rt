@@ -1,4 +1,6 @@
 // The verdict program: reads the text of a task on standard input and prints its verdict file.
+
+#![tactic(auto)]
 ghost use Rattle.std.specs.Prelude.{◌≤◌, ◌≡◌, length};
 ghost use Rattle.libc.specs.Io.{Moved};
 
@@ -10,7 +12,7 @@ use libc::{EINTR, STDERR_FILENO, STDIN_FILENO, STDOUT_FILENO};
 const TRIES: usize = 1000000;
 
 // What was read: so many bytes, and whether a read failed.
-#[derive(Drop)]
+#[derive(Clone, Copy)]
 struct Input {
     bytes: usize,
     failed: bool,

@@ -1,5 +1,7 @@
 // Masks of facts, and the two kinds of copies made of them. No crate above takes a mask apart, and
 // only here and where a task's words are read is it known how many words a mask takes.
+
+#![tactic(auto)]
 ghost use Rattle.std.specs.Prelude.{◌≡◌, ◌<◌, length, eqb};
 ghost use Rattle.semantics.specs.Mask.{has, within, without, after, below};
 ghost use Rattle.semantics.specs.Words.{of_words, words_of, states_in};
@@ -14,15 +16,15 @@ pub type Words = [u64; WORDS];
 
 // A set of facts: the low word, then the high word. Bit f stands for fact f, and for fact 64 + f in
 // the high word.
-#[derive(Drop)]
+#[derive(Clone, Copy)]
 pub struct Mask(pub u64, pub u64);
 
 // A member's local copy.
-#[derive(Drop)]
+#[derive(Clone, Copy)]
 pub struct Local(pub Mask);
 
 // The shared copy.
-#[derive(Drop)]
+#[derive(Clone, Copy)]
 pub struct Shared(pub Mask);
 
 // No fact.

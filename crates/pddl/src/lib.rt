@@ -1,5 +1,7 @@
 // The reader of laws in PDDL: a text with a domain and a problem for each member, and a text of
 // waits, in; the words of the task out.
+
+#![tactic(auto)]
 ghost use Rattle.std.specs.Prelude.{◌≡◌, ◌*◌, ◌≤◌, length};
 ghost use Rattle.semantics.specs.Words.{states_in};
 ghost use Rattle.semantics.specs.Task.{row_width};
@@ -35,7 +37,7 @@ const SPANS: usize = 2 * pddl_words::MOST_FACTS;
 
 // What is read before the word slice is looked at: the first refusal, 0 where there is none, and
 // then the number of the task's rows.
-#[derive(Drop)]
+#[derive(Clone, Copy)]
 pub struct Law {
     pub refusal: u64,
     pub records: usize,

@@ -1,5 +1,7 @@
 // The actions of a domain, from an offset on: how many, whether a name stands twice, whether all
 // facts that they name are known, and their rows. Within the limits each is read once.
+
+#![tactic(auto)]
 ghost use Rattle.std.specs.Prelude.{◌≡◌, ◌+◌, ◌*◌, ◌≤◌, length};
 ghost use Rattle.semantics.specs.Words.{states_in};
 ghost use Rattle.semantics.specs.Task.{row_width};
@@ -11,14 +13,14 @@ ghost use Rattle.pddl_acts.specs.Inner.Names.{called_from, Noted, NamesIn};
 ghost use Rattle.pddl_acts.specs.Inner.Own.{Placed, Tallied, OwnIn};
 
 // How many actions there are, and whether all facts that they name are known.
-#[derive(Drop)]
+#[derive(Clone, Copy)]
 pub struct Tally {
     pub count: usize,
     pub known: bool,
 }
 
 // How many actions there are, and whether all their names are as they should be.
-#[derive(Drop)]
+#[derive(Clone, Copy)]
 pub struct Own {
     pub count: usize,
     pub named: bool,

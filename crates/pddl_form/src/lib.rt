@@ -1,6 +1,8 @@
 // Places in a text of PDDL, and what stands at them: fixed tokens, names, atoms, lists of atoms.
 // Each function goes on from a place to the one behind what it reads; outside the subset it stays
 // outside.
+
+#![tactic(auto)]
 ghost use Rattle.std.specs.Prelude.{◌≡◌, ◌≤◌, length};
 ghost use Rattle.semantics.specs.Pddl.{is_in};
 ghost use Rattle.pddl_theory.specs.Inner.Place.{span};
@@ -10,14 +12,14 @@ ghost use Rattle.pddl_form.specs.Inner.Place.{Opens, Closes, Expects, Names};
 ghost use Rattle.pddl_form.specs.Inner.Place.{Atoms, AtomsEnd};
 
 // A place: an offset, or outside the subset.
-#[derive(Drop)]
+#[derive(Clone, Copy)]
 pub enum Place {
     At(usize),
     Outside,
 }
 
 // A word from its first offset up to the one behind it, and the place behind what has it.
-#[derive(Drop)]
+#[derive(Clone, Copy)]
 pub struct Word {
     pub first: usize,
     pub end: usize,

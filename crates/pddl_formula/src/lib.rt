@@ -1,5 +1,7 @@
 // Conditions and effects of PDDL: the facts that a formula names, as masks over a table of names. A
 // formula is an atom, in an effect perhaps negated, or an `and` of formulas.
+
+#![tactic(auto)]
 ghost use Rattle.std.specs.Prelude.{◌≤◌, length};
 ghost use Rattle.pddl_formula.specs.Inner.Formula.{Ready, Nothing, FactOf};
 ghost use Rattle.pddl_formula.specs.Inner.Formula.{LiteralAt, NegationAt};
@@ -9,7 +11,7 @@ use mask::Mask;
 
 // The facts that a formula adds and those that it deletes, whether all its names are known,
 // and the place behind it.
-#[derive(Drop)]
+#[derive(Clone, Copy)]
 pub struct Literals {
     pub adds: Mask,
     pub dels: Mask,
@@ -18,7 +20,7 @@ pub struct Literals {
 }
 
 // The mask of a fact alone, empty for a name that is not in the table; whether the name is known.
-#[derive(Drop)]
+#[derive(Clone, Copy)]
 pub struct Fact {
     pub bit: Mask,
     pub known: bool,

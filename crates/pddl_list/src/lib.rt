@@ -1,16 +1,18 @@
 // Lists of atoms of a text of PDDL, each from an offset on: how many, whether two are alike,
 // whether a name stands twice, whether one list has all names of another, and a table of the first
 // names.
+
+#![tactic(auto)]
 ghost use Rattle.std.specs.Prelude.{◌≡◌, ◌≤◌, ◌*◌, length};
 ghost use Rattle.semantics.specs.Base.{all_of};
-ghost use Rattle.semantics.specs.Pddl.{is_in, same_names_lem, none_twice};
+ghost use Rattle.semantics.specs.Pddl.{is_in, same_names, none_twice};
 ghost use Rattle.pddl_theory.specs.Inner.Limits.{most_facts};
 ghost use Rattle.pddl_name.specs.Inner.Table.{names_in, Spans};
 ghost use Rattle.pddl_form.specs.Inner.Place.{atoms_from};
 ghost use Rattle.pddl_list.specs.Inner.Table.{Tabled};
 
 // How many names stand in the table, and the offset from which the others stand.
-#[derive(Drop)]
+#[derive(Clone, Copy)]
 pub struct Table {
     pub count: usize,
     pub more: usize,

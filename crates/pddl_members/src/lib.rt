@@ -1,12 +1,14 @@
 // The members of a text of PDDL: how many there are, and a table of where the parts of the first
 // ones stand.
+
+#![tactic(auto)]
 ghost use Rattle.std.specs.Prelude.{◌≡◌, ◌+◌, ◌*◌, ◌≤◌, ◌<◌, length};
 ghost use Rattle.pddl_theory.specs.Inner.Appended.{row, Appended};
 ghost use Rattle.pddl_section.specs.Inner.Section.{Members};
 ghost use Rattle.pddl_members.specs.Inner.Kept.{entry_of, Kept, Keeps, CountedIn};
 
 // How many members the text has, none outside the subset; how many stand in the table.
-#[derive(Drop)]
+#[derive(Clone, Copy)]
 pub struct Counts {
     pub members: usize,
     pub kept: usize,

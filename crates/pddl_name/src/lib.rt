@@ -1,14 +1,16 @@
 // Words of a text of PDDL: whether two are the same, letter case apart, whether one is a name, and
 // where one stands in a table of words.
+
+#![tactic(auto)]
 ghost use Rattle.std.specs.Prelude.{◌≡◌, not, ◌≤◌, length, eqb};
 ghost use Rattle.semantics.specs.Base.{all_of};
 ghost use Rattle.semantics.specs.Pddl as Pddl;
-ghost use Rattle.semantics.specs.Pddl.{is_letter, is_name_lem, small};
+ghost use Rattle.semantics.specs.Pddl.{is_letter, is_name, small};
 ghost use Rattle.pddl_theory.specs.Inner.Place.{span};
 ghost use Rattle.pddl_name.specs.Inner.Table.{names_in, Spans, Looked};
 
 // Where a word stands in a table.
-#[derive(Drop)]
+#[derive(Clone, Copy)]
 pub enum Found {
     At(usize),
     Absent,

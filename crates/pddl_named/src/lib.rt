@@ -1,10 +1,12 @@
 // The names of a law in PDDL, of which the form is known: whether all are known, none stands twice
 // where it may not, and the members agree. In the same pass their rows are made.
+
+#![tactic(auto)]
 ghost use Rattle.std.specs.Prelude.{◌≡◌, ◌+◌, ◌*◌, ◌≤◌, length, ◌&&◌};
 ghost use Rattle.semantics.specs.Base.{all_of};
 ghost use Rattle.semantics.specs.Words.{states_in};
 ghost use Rattle.semantics.specs.Task.{row_width};
-ghost use Rattle.semantics.specs.Pddl.{is_in, same_set_lem};
+ghost use Rattle.semantics.specs.Pddl.{is_in, same_set};
 ghost use Rattle.pddl_form.specs.Inner.Place.{atoms_from};
 ghost use Rattle.pddl_formula.specs.Inner.Formula.{Ready};
 ghost use Rattle.pddl_section.specs.Inner.Section.{actions_from};
@@ -18,7 +20,7 @@ const MOST_MEMBERS: usize = 8;
 
 // What all members share: the offsets of the first one's predicates and initial facts, how many
 // predicates there are, the offset of those that are not in the table, the initial facts as a mask.
-#[derive(Drop)]
+#[derive(Clone, Copy)]
 pub struct Common {
     pub predicates: usize,
     pub initially: usize,
@@ -28,7 +30,7 @@ pub struct Common {
 }
 
 // A list of atoms as facts: their mask over the table, and whether all are known.
-#[derive(Drop)]
+#[derive(Clone, Copy)]
 pub struct Facts {
     pub mask: Mask,
     pub known: bool,

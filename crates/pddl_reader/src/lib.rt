@@ -1,5 +1,7 @@
 // A reader of PDDL: it keeps hold on the lent text together with the next byte to read. Each
 // function is thin over one on a slice and an offset, and is proved by a walk.
+
+#![tactic(auto)]
 ghost use Rattle.std.specs.Prelude.{◌≡◌};
 ghost use Rattle.pddl_section.specs.Inner.Section.{Members};
 

@@ -1,5 +1,7 @@
 // Actions, domains, problems and members of a text of PDDL: their form, and the offsets at which
 // their parts stand.
+
+#![tactic(auto)]
 ghost use Rattle.pddl_form.specs.declared.Place.TheVariants.{At};
 ghost use Rattle.pddl_formula.specs.Inner.Formula.{Ready};
 ghost use Rattle.pddl_section.specs.Inner.Section.{FormulaEnds, Acts, Masked, ActionsEnd};
@@ -9,7 +11,7 @@ use mask::Mask;
 
 // An action: its name, the places of its precondition and its effect, the facts that it needs, adds
 // and deletes, whether all that it names are known, the place behind it.
-#[derive(Drop)]
+#[derive(Clone, Copy)]
 pub struct Act {
     pub first: usize,
     pub end: usize,
@@ -23,7 +25,7 @@ pub struct Act {
 }
 
 // A domain: its name, the offsets of its predicates and of its actions, the place behind it.
-#[derive(Drop)]
+#[derive(Clone, Copy)]
 pub struct Domain {
     pub first: usize,
     pub end: usize,
@@ -34,7 +36,7 @@ pub struct Domain {
 
 // A problem: the name of its domain, the offset of its initial facts, the place of its goal, the
 // place behind it.
-#[derive(Drop)]
+#[derive(Clone, Copy)]
 pub struct Problem {
     pub first: usize,
     pub end: usize,
@@ -44,7 +46,7 @@ pub struct Problem {
 }
 
 // A member: its domain, its problem.
-#[derive(Drop)]
+#[derive(Clone, Copy)]
 pub struct Member {
     pub domain: Domain,
     pub problem: Problem,

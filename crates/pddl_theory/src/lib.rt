@@ -1,1 +1,3 @@
 // Laws about the meaning of PDDL; no code.
+
+#![tactic(auto)]

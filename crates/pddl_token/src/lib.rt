@@ -1,11 +1,13 @@
 // The next token of a text of PDDL, from an offset on.
+
+#![tactic(auto)]
 ghost use Rattle.std.specs.Prelude.{◌≡◌, ◌≤◌, length};
 ghost use Rattle.semantics.specs.Pddl.{in_word, is_blank};
 ghost use Rattle.pddl_token.specs.Inner.Next.{LineEnd, Skipped, WordEnd, Next};
 
 // A token: a parenthesis with the offset behind it; a word with its first offset and the one behind
 // it; the text's end; a byte that no token has.
-#[derive(Drop)]
+#[derive(Clone, Copy)]
 pub enum Token {
     Open(usize),
     Close(usize),

@@ -1,1 +1,3 @@
 // What the PDDL writer writes reads back; laws only, no code.
+
+#![tactic(auto)]

@@ -1,5 +1,7 @@
 // The waits of a law in PDDL: records of an action's number and a fact's, any number of them, read
 // one after the other.
+
+#![tactic(auto)]
 ghost use Rattle.std.specs.Prelude.{◌≡◌, ◌≤◌, max, length};
 ghost use Rattle.semantics.specs.Base.{zeroed};
 ghost use Rattle.pddl_waits.specs.Inner.Wait.{WaitMeans};
@@ -12,7 +14,7 @@ const FIELDS: usize = 2;
 
 // What stands at an offset: a record, its action, its fact and the offset behind it; the text's
 // end; or no record.
-#[derive(Drop)]
+#[derive(Clone, Copy)]
 enum Wait {
     For(u64, u64, usize),
     End,
@@ -21,7 +23,7 @@ enum Wait {
 
 // What the waits are: records of two numbers or not; whether there is one; the greatest number of
 // an action and of a fact in them.
-#[derive(Drop)]
+#[derive(Clone, Copy)]
 pub struct Reading {
     pub good: bool,
     pub some: bool,

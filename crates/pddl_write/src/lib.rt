@@ -1,5 +1,7 @@
 // The writer of laws in PDDL. Each inner function puts its bytes into the slice from the place `at`
 // on, as far as the slice goes, and answers the place after them: in an empty slice it only counts.
+
+#![tactic(auto)]
 ghost use Rattle.std.specs.Prelude.{◌≡◌, [], ◌∷◌, ◌-◌, ◌^◌, ◌≤◌, ◌<◌, length};
 ghost use Rattle.semantics.specs.Base.{up_to, padded};
 ghost use Rattle.semantics.specs.Mask.{has, standing};
@@ -24,7 +26,7 @@ const MOST: usize = 1_048_576;
 const ALL: u64 = 18446744073709551615;
 
 // The answer: the lengths of both texts, or a refusal.
-#[derive(Drop)]
+#[derive(Clone, Copy)]
 pub enum Written {
     Gives(usize, usize),
     Refused(u64),

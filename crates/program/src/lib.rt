@@ -1,10 +1,12 @@
 // The verdict program on slices: the text of a task in, the verdict file out.
+
+#![tactic(auto)]
 ghost use Rattle.std.specs.Prelude.{◌≡◌, ◌≤◌, length, replicate};
 ghost use Rattle.semantics.specs.Verdict.{lent_of};
 ghost use Rattle.semantics.specs.Task.{check};
 ghost use Rattle.text.specs.Post.{most_words};
 ghost use Rattle.program.specs.Program.{lent_for, reported, printed, AtFront};
-ghost use Rattle.program.specs.Inner.Most.{most_bytes_lem};
+ghost use Rattle.program.specs.Inner.Most.{most_bytes};
 
 use text::TextRead;
 

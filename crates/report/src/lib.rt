@@ -1,6 +1,8 @@
 // The verdict file: the lines of an answer, put into a lent slice of bytes. Each function lays its
 // bytes into the slice from the place `at` on, leaves the rest as it was, and answers the place
 // after them.
+
+#![tactic(auto)]
 ghost use Rattle.std.specs.Prelude.{◌≡◌, [], ◌∷◌, ◌++◌, ◌+◌, ◌≤◌, ◌<◌, length, get_or};
 ghost use Rattle.std.proofs.Math.Seq.{slice};
 ghost use Rattle.theory.proofs.Laid.{Laid};

@@ -1,5 +1,7 @@
 // The dispatcher: a run with its change number, which is lent by &mut to each pick and each commit;
 // its start, and a list of picks on it.
+
+#![tactic(auto)]
 ghost use Rattle.semantics.specs.Dispatch.{start_of, pick_numbered, play_on, commit_on};
 ghost use Rattle.run_ticket.specs.Value.{numbered_of, ticket_of, DispatchMeans};
 ghost use Rattle.run_dispatch.specs.Value.{empty_run, LentMeans, RunMeans};
@@ -10,7 +12,7 @@ use run_play::Played;
 use run_ticket::{Dispatched, Numbered, Ticket};
 
 // The task check's refusal, 0 where there is none, and the run at the start.
-#[derive(Drop)]
+#[derive(Clone, Copy)]
 pub struct Started {
     pub refusal: u64,
     pub run: Numbered,

@@ -1,5 +1,7 @@
 // Of an accepted task with checked plans: what a run has come to, and a list of picks from the
 // start.
+
+#![tactic(auto)]
 ghost use Rattle.std.specs.Prelude.{◌≡◌, ◌+◌, ◌^◌, ◌<◌};
 ghost use Rattle.semantics.specs.Base.{up_to};
 ghost use Rattle.semantics.specs.Task.{check, members};
@@ -17,7 +19,7 @@ use mask::{Mask, Shared};
 use run_pick::{Answer, Closed, Reply, Run};
 
 // What a run has come to.
-#[derive(Drop)]
+#[derive(Clone, Copy)]
 pub enum Outcome {
     Success,
     Failure(Fault),
@@ -26,7 +28,7 @@ pub enum Outcome {
 
 // What a list of picks comes to: the outcome, the shared copy, the picks done, a collision pick not
 // counted, and the preconditions that this one lacks.
-#[derive(Drop)]
+#[derive(Clone, Copy)]
 pub struct Replay {
     pub outcome: Outcome,
     pub shared: Shared,
@@ -34,7 +36,7 @@ pub struct Replay {
     pub missing: Mask,
 }
 
-#[derive(Drop)]
+#[derive(Clone, Copy)]
 pub enum ReplayAnswer {
     Refused(u64),
     Gives(Replay),

@@ -1,5 +1,7 @@
 // Runs of an accepted task with checked plans: a member's next step, a single pick, the start, and
 // whether a run that is handed in stands within its plans.
+
+#![tactic(auto)]
 ghost use Rattle.std.specs.Prelude.{◌≡◌, ◌+◌, ◌<◌, get_or};
 ghost use Rattle.semantics.specs.Base.{refused};
 ghost use Rattle.semantics.specs.Task.{check, members};
@@ -14,7 +16,7 @@ use mask::{Mask, Shared};
 use step::{Decision, Stepped};
 
 // What has closed a run.
-#[derive(Drop)]
+#[derive(Clone, Copy)]
 pub enum Closed {
     NotYet,
     By(Fault),
@@ -22,7 +24,7 @@ pub enum Closed {
 
 // A run, beside its plans: the shared copy, each member's place in its plan, and what has closed
 // it. A task has at most eight members.
-#[derive(Drop)]
+#[derive(Clone, Copy)]
 pub struct Run {
     pub shared: Shared,
     pub places: [u64; 8],
@@ -30,21 +32,21 @@ pub struct Run {
 }
 
 // What a pick that is not refused replies; a collision with the preconditions that are missing.
-#[derive(Drop)]
+#[derive(Clone, Copy)]
 pub enum Reply {
     Go,
     Collision(Mask),
 }
 
 // What a pick answers.
-#[derive(Drop)]
+#[derive(Clone, Copy)]
 pub enum Answer {
     Refused(u64),
     Gives(Reply),
 }
 
 // A pick's answer with the run after it.
-#[derive(Drop)]
+#[derive(Clone, Copy)]
 pub struct Picked {
     pub answer: Answer,
     pub run: Run,

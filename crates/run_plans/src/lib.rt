@@ -1,5 +1,7 @@
 // The plans' check: one solving plan for each member in one slice, with the ends of the plans in
 // it; and readers of checked plans.
+
+#![tactic(auto)]
 ghost use Rattle.std.specs.Prelude.{◌≡◌, true, ◌≤◌, ◌<◌, length, get_or};
 ghost use Rattle.semantics.specs.Base.{up_to, first_refusal};
 ghost use Rattle.semantics.specs.Task.{check, members, actions};

@@ -1,5 +1,7 @@
 // A list of picks on a run; the task, plans and run are looked at once. The answer of each pick
 // goes into a lent slice.
+
+#![tactic(auto)]
 ghost use Rattle.std.specs.Prelude.{◌≡◌, set};
 ghost use Rattle.semantics.specs.Run.{plans_refusal, run_refusal};
 ghost use Rattle.run_pick.specs.Value.{run_of, answer_of};
@@ -12,7 +14,7 @@ use run_ticket::Numbered;
 
 // The refusal, 0 where there is none, and the run after the picks: as it was where there is a
 // refusal.
-#[derive(Drop)]
+#[derive(Clone, Copy)]
 pub struct Played {
     pub refusal: u64,
     pub run: Numbered,

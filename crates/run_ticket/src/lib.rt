@@ -1,4 +1,6 @@
 // A run with its change number, which goes in by value: a pick on it, ask and commit.
+
+#![tactic(auto)]
 ghost use Rattle.std.specs.Prelude.{◌≡◌, not, ◌+◌, ◌<◌, eqb};
 ghost use Rattle.semantics.specs.Base.{refused, unless, ◌if◌, ◌else◌};
 ghost use Rattle.semantics.specs.Run.{plans_refusal};
@@ -12,28 +14,28 @@ use run_pick::{Answer, Picked, Reply, Run};
 use step::{Decision, Stepped};
 
 // A run with its change number: how many picks were done on it, a colliding one too.
-#[derive(Drop)]
+#[derive(Clone, Copy)]
 pub struct Numbered {
     pub run: Run,
     pub change: u32,
 }
 
 // The asked pick: the member, and the change number of the run at which it was asked.
-#[derive(Drop)]
+#[derive(Clone, Copy)]
 pub struct Ticket {
     pub member: u8,
     pub change: u32,
 }
 
 // What an ask answers.
-#[derive(Drop)]
+#[derive(Clone, Copy)]
 pub enum AskAnswer {
     Refused(u64),
     Gives(Decision, Ticket),
 }
 
 // What a pick or a commit answers, with the run after it.
-#[derive(Drop)]
+#[derive(Clone, Copy)]
 pub struct Dispatched {
     pub answer: Answer,
     pub run: Numbered,

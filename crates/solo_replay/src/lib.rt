@@ -1,4 +1,6 @@
 // Solo replay: a member's plan on its local copy.
+
+#![tactic(auto)]
 ghost use Rattle.std.specs.Prelude.{◌≡◌, ◌<◌};
 ghost use Rattle.semantics.specs.Base.{first_refusal};
 ghost use Rattle.semantics.specs.Task.{check, members, actions, initial};
@@ -12,7 +14,7 @@ use step::LocalAttempt;
 
 // What a plan comes to: it solves; its step at an index lacks a precondition; or all steps are done
 // and the goal is missing.
-#[derive(Drop)]
+#[derive(Clone, Copy)]
 pub enum Solo {
     Solves,
     Breaks(usize),
@@ -20,7 +22,7 @@ pub enum Solo {
 }
 
 // The operation's answer.
-#[derive(Drop)]
+#[derive(Clone, Copy)]
 pub enum SoloAnswer {
     Refused(u64),
     Gives(Solo),

@@ -1,4 +1,6 @@
 // Step: the one routine that says go, wait or collision, and the operation over it.
+
+#![tactic(auto)]
 ghost use Rattle.std.specs.Prelude.{◌≡◌, ◌<◌};
 ghost use Rattle.semantics.specs.Task.{check, actions};
 ghost use Rattle.semantics.specs.System.{result_of, system, waits};
@@ -9,14 +11,14 @@ ghost use Rattle.step.specs.Value.{attempt_of, local_attempt_of, decision_of, st
 use mask::{Local, Mask, Shared};
 
 // What an action makes of a mask: a new one, or nothing, where the mask lacks preconditions: these.
-#[derive(Drop)]
+#[derive(Clone, Copy)]
 enum Attempt {
     To(Mask),
     Lacks(Mask),
 }
 
 // The same of a local copy.
-#[derive(Drop)]
+#[derive(Clone, Copy)]
 pub enum LocalAttempt {
     To(Local),
     Lacks(Mask),
@@ -24,7 +26,7 @@ pub enum LocalAttempt {
 
 // What a pending action answers at a shared copy: go with the new one, wait, or collision with the
 // preconditions that are missing.
-#[derive(Drop)]
+#[derive(Clone, Copy)]
 pub enum Decision {
     Go(Shared),
     Wait,
@@ -32,7 +34,7 @@ pub enum Decision {
 }
 
 // The operation's answer.
-#[derive(Drop)]
+#[derive(Clone, Copy)]
 pub enum Stepped {
     Refused(u64),
     Gives(Decision),
@@ -44,7 +46,7 @@ pub enum Stepped {
 fn waits(t: &[u64], a: usize, m: Mask) -> bool
     requires t_value { check t.now ≡ 0 }
     requires a_bound { a < actions t.now }
-    ensures* { λ r. ⌜ r ≡ waits t.now a (number m) ⌝ }
+    ensures { result ≡ waits t.now a (number m) }
 {
     !mask::within(task::wait(t, a), m)
 }
@@ -53,7 +55,7 @@ fn waits(t: &[u64], a: usize, m: Mask) -> bool
 fn act(t: &[u64], a: usize, m: Mask) -> Attempt
     requires t_value { check t.now ≡ 0 }
     requires a_bound { a < actions t.now }
-    ensures* { λ r. ⌜ attempt_of r ≡ (system t.now).act a (number m) ⌝ }
+    ensures { attempt_of result ≡ (system t.now).act a (number m) }
 {
     let pre = task::pre(t, a);
     if !mask::within(pre, m) {
@@ -70,7 +72,7 @@ fn act(t: &[u64], a: usize, m: Mask) -> Attempt
 pub fn local_act(t: &[u64], a: usize, s: Local) -> LocalAttempt
     requires t_value { check t.now ≡ 0 }
     requires a_bound { a < actions t.now }
-    ensures* { λ r. ⌜ local_attempt_of r ≡ (system t.now).act a (local_number s) ⌝ }
+    ensures { local_attempt_of result ≡ (system t.now).act a (local_number s) }
 {
     let r = act(t, a, s.0);
     match r {
@@ -83,7 +85,7 @@ pub fn local_act(t: &[u64], a: usize, s: Local) -> LocalAttempt
 pub fn local_result(t: &[u64], a: usize, s: Local) -> Local
     requires t_value { check t.now ≡ 0 }
     requires a_bound { a < actions t.now }
-    ensures* { λ r. ⌜ local_number r ≡ result_of (system t.now) a (local_number s) ⌝ }
+    ensures { local_number result ≡ result_of (system t.now) a (local_number s) }
 {
     let r = local_act(t, a, s);
     match r {
@@ -98,8 +100,8 @@ pub fn local_result(t: &[u64], a: usize, s: Local) -> Local
 pub fn decide(t: &[u64], a: usize, g: Shared) -> Decision
     requires t_value { check t.now ≡ 0 }
     requires a_bound { a < actions t.now }
-    ensures* { λ r. ⌜ decision_of r
-        ≡ routine (system t.now) (waits t.now) a (shared_number g) ⌝ }
+    ensures { decision_of result
+        ≡ routine (system t.now) (waits t.now) a (shared_number g) }
 {
     if waits(t, a, g.0) {
         return Decision::Wait;
@@ -113,7 +115,7 @@ pub fn decide(t: &[u64], a: usize, g: Shared) -> Decision
 
 // The operation, for every input.
 pub fn step(t: &[u64], action: u16, g: Shared) -> Stepped
-    ensures* { λ r. ⌜ stepped_of r ≡ step t.now action (shared_number g) ⌝ }
+    ensures { stepped_of result ≡ step t.now action (shared_number g) }
 {
     let e = task::check(t);
     if e != 0 {

@@ -1,9 +1,11 @@
 // The task check, and readers of an accepted task's rows.
+
+#![tactic(auto)]
 ghost use Rattle.std.specs.Prelude.{◌≡◌, true, ◌+◌, ◌*◌, ◌≤◌, ◌<◌, length, eqb};
 ghost use Rattle.semantics.specs.Base.{up_to, first_refusal};
 ghost use Rattle.semantics.specs.Task.{row_width, word, mask_in, facts, members, actions, initial};
 ghost use Rattle.semantics.specs.Task.{goal, action_at, owner, pre, wait, add, del, zeros_from};
-ghost use Rattle.semantics.specs.Task.{mask_fits_lem, head_fits, goal_row, action_row, check};
+ghost use Rattle.semantics.specs.Task.{mask_fits, head_fits, goal_row, action_row, check};
 ghost use Rattle.mask.specs.Number.{number};
 ghost use Rattle.semantics.specs.Mask.{within};
 ghost use Rattle.task.specs.Inner.Shape.{Sized, masks_below, rows_refusal};

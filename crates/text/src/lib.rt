@@ -1,5 +1,7 @@
 // The text reader: bytes in, words out. The reader of records goes by the fields of a record,
 // `width`, and the most records; the text reader is its instance for a task's rows.
+
+#![tactic(auto)]
 ghost use Rattle.std.specs.Prelude.{◌≡◌, ◌-◌, ◌*◌, ◌^◌, ◌≤◌, ◌<◌, length};
 ghost use Rattle.text.specs.Inner.Byte.{ByteMeans};
 ghost use Rattle.text.specs.Inner.Place.{at, InReach, step_of, last_of};
@@ -18,7 +20,7 @@ pub const MOST_WORDS: usize = ROW * MOST_RECORDS;
 const LARGEST: u64 = 18446744073709551615;
 
 // What a byte is to the reader; of a digit, its value.
-#[derive(Drop)]
+#[derive(Clone, Copy)]
 pub enum Byte {
     Digit(u64),
     Comma,
@@ -29,7 +31,7 @@ pub enum Byte {
 
 // What was read of the present field: nothing, or digits that write a number; or the record's
 // fields are all read, and CR.
-#[derive(Drop)]
+#[derive(Clone, Copy)]
 pub enum Field {
     Empty,
     Number(u64),
@@ -37,7 +39,7 @@ pub enum Field {
 }
 
 // Where the reader stands: the records before, the fields of this record before, and the field.
-#[derive(Drop)]
+#[derive(Clone, Copy)]
 pub struct Place {
     pub records: usize,
     pub fields: usize,
@@ -45,7 +47,7 @@ pub struct Place {
 }
 
 // What a byte leads to: a place; a word that is read, and a place; or the text is none.
-#[derive(Drop)]
+#[derive(Clone, Copy)]
 pub enum Turn {
     On(Place),
     Word(u64, Place),
@@ -54,7 +56,7 @@ pub enum Turn {
 
 // What the end of the text leads to: the number of records, with or without a word that is read
 // there; or the text is none.
-#[derive(Drop)]
+#[derive(Clone, Copy)]
 pub enum Last {
     Records(usize),
     Word(u64, usize),
@@ -62,14 +64,14 @@ pub enum Last {
 }
 
 // What the whole text is: the number of its records; or the text is none.
-#[derive(Drop)]
+#[derive(Clone, Copy)]
 pub enum Scan {
     Records(usize),
     Bad,
 }
 
 // The answer: the number of records, or a refusal.
-#[derive(Drop)]
+#[derive(Clone, Copy)]
 pub enum TextRead {
     Gives(usize),
     Refused(u64),

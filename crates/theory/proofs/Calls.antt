@@ -192,6 +192,7 @@ module _ (t plans ends : List ℕ) where
       at fewer (no ne) =
           let same : length (rest P r' n) ≡ length (rest P r n) = ap length (h n ne) in
           omega (arith, fewer (omega (arith, ne)), same)
+  left_less r r' j e h zero l = elim l [ ]
 
   left-some : (r : Run ℕ) (j n : ℕ) → j < n → length (rest P r j) ≤ left r n
   unfolding left
@@ -200,6 +201,7 @@ module _ (t plans ends : List ℕ) where
       at : (j < n → length (rest P r j) ≤ left r n) → Dec (j ≡ n) → length (rest P r j) ≤ left r n + length (rest P r n)
       at some (yes q) = rw q (omega arith)
       at some (no ne) = omega (arith, some (omega (arith, ne)))
+  left-some r j zero l = elim l [ ]
 
   -- at most T picks are done: the steps left are room for more, or the run is closed
   Room : ℕ → Numbered ℕ → Type 0

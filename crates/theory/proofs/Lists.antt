@@ -242,6 +242,7 @@ unfolding flatten
 mem-flatten {A = A} f {y = y} {xs = x ∷ xs} (Memᴰ.head e) m =
     Memᴰ.append_left (flatten (map f xs)) (subst (λ (z : A). Memᴰ y (f z)) e m)
 mem-flatten {A = A} f {xs = x ∷ xs} (Memᴰ.tail n) m = Memᴰ.append_right (f x) (mem-flatten f n m)
+mem-flatten {A = A} {B = B} f {y = y} {xs = []} x6 m = elim x6 [ ]
 
 -- ---- entries
 

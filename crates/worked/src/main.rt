@@ -1,6 +1,8 @@
 // Runs the paper's worked laws through the operations and prints what they answer, one line an
 // answer; then L13, which is L1 with each fact higher by 61, so that facts 0 to 2 stand in the low
 // words and 3 and 4 in the high ones.
+
+#![tactic(auto)]
 ghost use Rattle.std.specs.Prelude.{◌≤◌, length};
 
 use text::Scan;

@@ -1,4 +1,6 @@
 // What the operations answer on a law, one line an answer, on standard output.
+
+#![tactic(auto)]
 use fault::{Failing, Fault, Verdict, VerdictAnswer};
 use mask::{Mask, Shared};
 use run_outcome::{Outcome, ReplayAnswer};

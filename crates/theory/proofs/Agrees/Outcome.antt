@@ -39,6 +39,9 @@ module _ (S : System) (g : S.State) where
   widen k c (failure (missed i)) e (first l u n h) =
       first {i = i} (omega arith) (omega arith) n
       (λ j m v. ⊎_elim (λ (s : k < j). h j s v) (λ (s : j ≤ k). let q : j ≡ k = omega arith in rw q e) (lt-or_ge k j))
+  widen k c (failure Rattle.semantics.specs.Run.collision) e x4 = elim x4 [ ]
+  widen k c (failure deadlock) e x5 = elim x5 [ ]
+  widen k c still_open e x3 = elim x3 [ ]
 
   pub first-missed : (k c : ℕ) → FirstMissed k c (missed_in S g (numbers_from k c))
   unfolding missed_in numbers_from
@@ -63,6 +66,15 @@ module _ (S : System) (g : S.State) where
       (λ (v : i ≤ j). let q : i ≡ j = omega arith in ap (λ (x : ℕ). failure (missed x)) q)
       (lt-or_ge j i))
       (lt-or_ge i j)
+  first-missed_unique k c success (failure Rattle.semantics.specs.Run.collision) _ x8 = elim x8 [ ]
+  first-missed_unique k c success (failure deadlock) _ x9 = elim x9 [ ]
+  first-missed_unique k c success still_open _ x6 = elim x6 [ ]
+  first-missed_unique k c (failure Rattle.semantics.specs.Run.collision) _ x6 _ = elim x6 [ ]
+  first-missed_unique k c (failure deadlock) _ x7 _ = elim x7 [ ]
+  first-missed_unique k c (failure (missed i)) (failure Rattle.semantics.specs.Run.collision) _ x14 = elim x14 [ ]
+  first-missed_unique k c (failure (missed i)) (failure deadlock) _ x15 = elim x15 [ ]
+  first-missed_unique k c (failure (missed i)) still_open _ x12 = elim x12 [ ]
+  first-missed_unique k c still_open _ x4 _ = elim x4 [ ]
 
 -- ---- the tests of a run, against its world
 
@@ -169,6 +181,9 @@ module _ (t : List ℕ) (plans : List (List ℕ)) (r : Run ℕ) (going : Going r
     not_within (Task.goal t i) r.shared n,
     λ j v. within-sub (Task.goal t j) r.shared (h j zero-le v),
   )
+  goals_of e (failure Rattle.semantics.specs.Run.collision) x3 = elim x3 [ ]
+  goals_of e (failure deadlock) x4 = elim x4 [ ]
+  goals_of e still_open x'' = elim x'' [ ]
 
   pub outcome-says : OutcomeOf t world (outcome (system t) (waits t) plans r)
   outcome-says = go can_pick_lem has-steps refl refl

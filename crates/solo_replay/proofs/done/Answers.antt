@@ -1,0 +1,7 @@
+-- `solo_replay::done` meets its contract. Assumes nothing.
+use borrow.Author.Rules.{rules}
+use Rattle.solo_replay.proofs.Laws.{done-is}
+use Rattle.solo_replay.proofs.done.Goals as goal
+
+pub returns : goal.returns
+returns c = search done-is

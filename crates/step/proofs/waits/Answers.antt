@@ -1,0 +1,7 @@
+-- `step::waits` meets its contract. Assumes nothing.
+use borrow.Author.Rules.{rules}
+use Rattle.step.proofs.Laws.{waits-is}
+use Rattle.step.proofs.waits.Goals as goal
+
+pub returns : goal.returns
+returns c = search waits-is

@@ -1,0 +1,11 @@
+-- `task::goal` meets its contract: an accepted task has the length of its rows. Assumes nothing.
+use borrow.Author.Rules.{rules}
+use native.Mathlib.Omega.{arith}
+use Rattle.theory.proofs.Accepted.{accepted}
+use Rattle.task.proofs.goal.Goals as goal
+
+pub overflow_add-i : goal.overflow_add-i
+overflow_add-i c = omega (arith, (accepted c.args.t.now c.requires.t_value).size)
+
+pub mask_in-requires : goal.mask_in-requires
+mask_in-requires c = omega (arith, (accepted c.args.t.now c.requires.t_value).size)

@@ -1,0 +1,8 @@
+-- `task::initial` meets its contract: an accepted task has the length of its rows. Assumes nothing.
+use borrow.Author.Rules.{rules}
+use native.Mathlib.Omega.{arith}
+use Rattle.theory.proofs.Accepted.{accepted}
+use Rattle.task.proofs.initial.Goals as goal
+
+pub mask_in-requires : goal.mask_in-requires
+mask_in-requires c = omega (arith, (accepted c.args.t.now c.requires).size)
