@@ -61,18 +61,18 @@ module _ (w n : ℕ) (p : Place) (reach : InReach w n p) where
 
 -- ---- steps
 
-first_rest : (n k f : ℕ) (b : Byte) → OneOf (1 ∷ 2 ∷ 3 ∷ 4 ∷ []) (tag_of the_type b) → Bad ≡ first n k f b
-first_rest n k f (Digit d) h = absurd (miss (1 ∷ 2 ∷ 3 ∷ 4 ∷ []) 0 tt h)
+first_rest : (n k f : ℕ) (b : Byte) → ((d : ℕ) → b ≡ Digit d → ⊥) → Bad ≡ first n k f b
+first_rest n k f (Digit d) h = absurd (h d refl)
 first_rest n k f Comma h = refl
 first_rest n k f Cr h = refl
 first_rest n k f Lf h = refl
 first_rest n k f Other h = refl
 
-ended-rest : (k : ℕ) (b : Byte) → OneOf (0 ∷ 1 ∷ 2 ∷ 4 ∷ []) (tag_of the_type b) → Bad ≡ ended k b
+ended-rest : (k : ℕ) (b : Byte) → (b ≡ Lf → ⊥) → Bad ≡ ended k b
 ended-rest k (Digit d) h = refl
 ended-rest k Comma h = refl
 ended-rest k Cr h = refl
-ended-rest k Lf h = absurd (miss (0 ∷ 1 ∷ 2 ∷ 4 ∷ []) 3 tt h)
+ended-rest k Lf h = absurd (h refl)
 ended-rest k Other h = refl
 
 module _ (w n : ℕ) (p : Place) (b : Byte) where
@@ -83,7 +83,7 @@ module _ (w n : ℕ) (p : Place) (b : Byte) where
     pub too_many : (d : ℕ) → b ≡ Digit d → n ≤ p.records → Bad ≡ step_of w n p b
     too_many d g h = rw (e, g, le-ltb p.records n h)
 
-    pub no_field : OneOf (1 ∷ 2 ∷ 3 ∷ 4 ∷ []) (tag_of the_type b) → Bad ≡ step_of w n p b
+    pub no_field : ((d : ℕ) → b ≡ Digit d → ⊥) → Bad ≡ step_of w n p b
     no_field h = rw e (first_rest n p.records p.fields b h)
 
   module _ (v : ℕ) (e : p.field ≡ Number v) where
@@ -113,7 +113,7 @@ module _ (w n : ℕ) (p : Place) (b : Byte) where
     pub next_record : b ≡ Lf → On (at (p.records + 1) 0 Empty) ≡ step_of w n p b
     next_record g = rw (e, g)
 
-    pub lone_cr : OneOf (0 ∷ 1 ∷ 2 ∷ 4 ∷ []) (tag_of the_type b) → Bad ≡ step_of w n p b
+    pub lone_cr : (b ≡ Lf → ⊥) → Bad ≡ step_of w n p b
     lone_cr h = rw e (ended-rest p.records b h)
 
 -- ---- the end of the text
