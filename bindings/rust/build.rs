@@ -31,7 +31,7 @@ fn main() {
     println!("cargo::rerun-if-changed={}", archive.display());
     let Ok(archive) = archive.canonicalize() else {
         eprintln!("error: the static library {} is missing.", archive.display());
-        eprintln!("Make it first (rt staticlib capi), or name one in LAWCHECK_LIBRARY.");
+        eprintln!("Make it first (rt lib in crates/capi, or tests/library), or name one in LAWCHECK_LIBRARY.");
         exit(1);
     };
     let folder = archive.parent().expect("a file stands in a folder");
