@@ -26,7 +26,6 @@ use Rattle.fault.specs.declared.Fault.{Fault}
 use Rattle.run_pick.specs.Inner.Meaning.{plans_in, pick_in}
 use Rattle.run_pick.specs.Value.{run_of, reply_of, PickMeans}
 use Rattle.run_pick.specs.declared.Run.{Run}
-use Rattle.run_pick.specs.declared.Answer.{Answer}
 use Rattle.run_pick.specs.declared.Answer.TheVariants.{Refused, Gives}
 use Rattle.run_pick.specs.declared.Closed.TheVariants.{NotYet, By}
 use Rattle.run_pick.specs.declared.Reply.{Reply}

@@ -2,6 +2,7 @@
 // start.
 
 #![tactic(auto)]
+
 ghost use Rattle.std.specs.Prelude.{◌≡◌, ◌+◌, ◌^◌, ◌<◌};
 ghost use Rattle.semantics.specs.Base.{up_to};
 ghost use Rattle.semantics.specs.Task.{check, members};

@@ -1,7 +1,7 @@
 -- The ways out of a pick, a run's outcome, and a list of picks in turn.
 use mathlib.Core.Path.{◌≡◌, refl, sym, ap, ap₂, subst, ◌∙◌, fun_ext}
-use mathlib.Core.Bool.{Bool, true, false, cond, not, false≢true}
-use mathlib.Core.List.{List, [], ◌∷◌}
+use mathlib.Core.Bool.{Bool, true, false, cond, false≢true}
+use mathlib.Core.List.{List}
 use Prim.Native.Nat.{ℕ, zero, suc, ◌+◌, ◌^◌, ◌≤◌, ◌<◌}
 use native.Mathlib.Omega.{arith}
 use native.Mathlib.Decide.{ℕ_discrete}
@@ -14,7 +14,6 @@ use Rattle.semantics.specs.Base.{up_to, any_of, refused, gives}
 use Rattle.semantics.specs.Task.{check, members, initial}
 use Rattle.semantics.specs.System.{system, waits}
 use Rattle.semantics.specs.Step.{routine, Decision as Decided}
-use Rattle.semantics.specs.Dispatch.{next_step}
 use Rattle.semantics.specs.Run as Paper
 use Rattle.semantics.specs.Run.{not_yet, is_closed, rest, advance, start, pick, outcome, plan_of, past_end}
 use Rattle.theory.proofs.Accepted.{accepted}
@@ -30,7 +29,6 @@ use Rattle.step.specs.Value.{decision_of, stepped_of}
 use Rattle.step.specs.declared.Decision.{Decision}
 use Rattle.step.specs.declared.Decision.TheVariants as decision
 use Rattle.step.specs.declared.Stepped.{Stepped}
-use Rattle.step.specs.declared.Stepped.TheVariants as Stepped
 use Rattle.run_pick.specs.Inner.Meaning.{plans_in, next_in, Ready, pick_in}
 use Rattle.run_pick.specs.Value.{closed_of, run_of, reply_of, answer_of, replies, answer_with, PickMeans}
 use Rattle.run_pick.specs.declared.Run.{Run}

@@ -2,6 +2,7 @@
 // whether a run that is handed in stands within its plans.
 
 #![tactic(auto)]
+
 ghost use Rattle.std.specs.Prelude.{◌≡◌, ◌+◌, ◌<◌, get_or};
 ghost use Rattle.semantics.specs.Base.{refused};
 ghost use Rattle.semantics.specs.Task.{check, members};

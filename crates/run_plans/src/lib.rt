@@ -2,6 +2,7 @@
 // it; and readers of checked plans.
 
 #![tactic(auto)]
+
 ghost use Rattle.std.specs.Prelude.{◌≡◌, true, ◌≤◌, ◌<◌, length, get_or};
 ghost use Rattle.semantics.specs.Base.{up_to, first_refusal};
 ghost use Rattle.semantics.specs.Task.{check, members, actions};

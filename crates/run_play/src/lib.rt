@@ -2,6 +2,7 @@
 // goes into a lent slice.
 
 #![tactic(auto)]
+
 ghost use Rattle.std.specs.Prelude.{◌≡◌, set};
 ghost use Rattle.semantics.specs.Run.{plans_refusal, run_refusal};
 ghost use Rattle.run_pick.specs.Value.{run_of, answer_of};

@@ -1,6 +1,7 @@
 // Joint replay, and the check of a run that is handed in.
 
 #![tactic(auto)]
+
 ghost use Rattle.std.specs.Prelude.{◌≡◌};
 ghost use Rattle.semantics.specs.Run.{joint_replay, run_refusal};
 ghost use Rattle.run_pick.specs.Value.{run_of};

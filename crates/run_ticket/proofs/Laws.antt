@@ -18,7 +18,6 @@ use Rattle.theory.proofs.Refusals.{else_both, else_first, unless-refused}
 use Rattle.step.specs.Value.{decision_of, stepped_of}
 use Rattle.step.specs.declared.Decision.{Decision}
 use Rattle.step.specs.declared.Stepped.{Stepped}
-use Rattle.step.specs.declared.Stepped.TheVariants as Stepped
 use Rattle.run_pick.specs.Inner.Meaning.{next_in, pick_in}
 use Rattle.run_pick.specs.Value.{run_of, PickMeans}
 use Rattle.run_pick.specs.declared.Answer.{Answer}

@@ -1,6 +1,7 @@
 // A run with its change number, which goes in by value: a pick on it, ask and commit.
 
 #![tactic(auto)]
+
 ghost use Rattle.std.specs.Prelude.{◌≡◌, not, ◌+◌, ◌<◌, eqb};
 ghost use Rattle.semantics.specs.Base.{refused, unless, ◌if◌, ◌else◌};
 ghost use Rattle.semantics.specs.Run.{plans_refusal};

@@ -1,0 +1,20 @@
+-- `run_plans::ends_fit` meets its contract: the ends rise up to j. Assumes nothing.
+use Rattle.run_plans.proofs.Laws.{wrong_number, rising, falls-there, rises-there, last_end}
+use Rattle.run_plans.proofs.ends_fit.Goals as goal
+
+pub returns-then-ends-n : goal.returns-then-ends-n
+returns-then-ends-n c = search wrong_number
+
+pub loop-j-init : goal.loop-j-init
+loop-j-init c = search rising
+
+pub returns-then-ends-j : goal.returns-then-ends-j
+returns-then-ends-j c = search falls-there
+
+pub loop-j-preserved : goal.loop-j-preserved
+loop-j-preserved c =
+    rises-there _ _ _ c.loop-j.invariant c.loop-j-test.true _
+    c.beginning.ensures c.if-ends-j.false
+
+pub returns : goal.returns
+returns c = search last_end
