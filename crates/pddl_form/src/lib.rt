@@ -3,6 +3,7 @@
 // outside.
 
 #![tactic(auto)]
+
 ghost use Rattle.std.specs.Prelude.{◌≡◌, ◌≤◌, length};
 ghost use Rattle.semantics.specs.Pddl.{is_in};
 ghost use Rattle.pddl_theory.specs.Inner.Place.{span};

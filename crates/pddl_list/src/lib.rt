@@ -3,6 +3,7 @@
 // names.
 
 #![tactic(auto)]
+
 ghost use Rattle.std.specs.Prelude.{◌≡◌, ◌≤◌, ◌*◌, length};
 ghost use Rattle.semantics.specs.Base.{all_of};
 ghost use Rattle.semantics.specs.Pddl.{is_in, same_names, none_twice};

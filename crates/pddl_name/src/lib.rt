@@ -2,6 +2,7 @@
 // where one stands in a table of words.
 
 #![tactic(auto)]
+
 ghost use Rattle.std.specs.Prelude.{◌≡◌, not, ◌≤◌, length, eqb};
 ghost use Rattle.semantics.specs.Base.{all_of};
 ghost use Rattle.semantics.specs.Pddl as Pddl;

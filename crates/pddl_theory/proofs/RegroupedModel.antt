@@ -85,8 +85,8 @@ module _ (Π Π' : Setting) (ρ : ℕ → ℕ) (r : Renames Π Π' ρ) where
   abbrev renamed : World Π → World Π'
   renamed w = record { state = w.state; left = λ j. map ρ (w.left j) }
 
-  acts-renamed : {w w' : World Π} {i : ℕ} → Acts Π w i w' → Acts Π' (renamed w) i (renamed w')
-  acts-renamed {w} {w'} {i} (acts {a = a} {π = π} l e waits holds) =
+  acts-renamed-by_case : {w : World Π} {i : ℕ} {w' : World Π} → Acts Π w i w' → Acts Π' (renamed w) i (renamed w')
+  acts-renamed-by_case {w} {i} (acts {a = a} {π = π} l e waits holds) =
       subst (Acts Π' (renamed w) i)
       (ap₂ (λ (s : FactSet) (left : ℕ → List ℕ). record { state = s; left = left })
       (sym (apply-renamed a w.state))
@@ -94,6 +94,9 @@ module _ (Π Π' : Setting) (ρ : ℕ → ℕ) (r : Renames Π Π' ρ) where
       (acts (forth l) (ap (map ρ) e)
       (waits-renamed a waits)
       (pre-renamed a holds))
+
+  acts-renamed : {w w' : World Π} {i : ℕ} → Acts Π w i w' → Acts Π' (renamed w) i (renamed w')
+  acts-renamed x = acts-renamed-by_case x
 
   execution_renamed : {w w' : World Π} {is : List ℕ} → Execution Π w is w' → Execution Π' (renamed w) is (renamed w')
   execution_renamed unmoved = unmoved

@@ -1,6 +1,7 @@
 // The next token of a text of PDDL, from an offset on.
 
 #![tactic(auto)]
+
 ghost use Rattle.std.specs.Prelude.{◌≡◌, ◌≤◌, length};
 ghost use Rattle.semantics.specs.Pddl.{in_word, is_blank};
 ghost use Rattle.pddl_token.specs.Inner.Next.{LineEnd, Skipped, WordEnd, Next};

@@ -1,6 +1,7 @@
 // The masks and the rows of a law that is read, and the tables they go into.
 
 #![tactic(auto)]
+
 ghost use Rattle.std.specs.Prelude.{◌≡◌, ◌++◌, ◌+◌, ◌^◌, ◌≤◌, ◌<◌, length};
 ghost use Rattle.std.specs.Int.Bits.{bit_or};
 ghost use Rattle.semantics.specs.Words.{words_of, row_words};
