@@ -1,0 +1,16 @@
+use mathlib.Core.Path.{sym}
+use Prim.Native.Nat.{◌-◌}
+use native.Mathlib.Omega.{arith}
+use Rattle.semantics.specs.Base.{up_to}
+use Rattle.theory.proofs.Lists.{up_to_length}
+use Rattle.theory.proofs.Loops.{up_to_at}
+use Rattle.mask.specs.Number.{number}
+use Rattle.report.specs.Inner.Put.{most_facts, missing_line}
+use Rattle.report.proofs.Laws.{Stage, stage-room, stage-onward, missing-begin, missing-end}
+use Rattle.report.proofs.put_missing.Given as goal
+
+abbrev pub invariant-loop-f : goal.invariant-loop-f
+invariant-loop-f l = Stage (missing_line (number l.m)) (up_to most_facts) l.initial.out l.at l.out l.next l.f
+
+abbrev pub decreases-loop-f : goal.decreases-loop-f
+decreases-loop-f l = most_facts - l.f

@@ -1,0 +1,37 @@
+-- `report::put_plans` meets its contract. Assumes nothing.
+use mathlib.Core.Path.{sym}
+use Prim.Native.Nat.{◌-◌}
+use native.Mathlib.Omega.{arith}
+use Rattle.semantics.specs.Base.{up_to}
+use Rattle.theory.proofs.Lists.{up_to_length}
+use Rattle.theory.proofs.Loops.{up_to_at}
+use Rattle.report.specs.File.{plan_lines, plans_lines}
+use Rattle.report.proofs.Laws.{Stage, stage-begin, stage-room, stage-onward, stage-end}
+use Rattle.report.proofs.put_plans.Goals as goal
+
+pub loop-i-init : goal.loop-i-init
+unfolding plans_lines
+loop-i-init c = search stage-begin
+
+pub put_plan-next-requires : goal.put_plan-next-requires
+put_plan-next-requires c =
+    record {
+      i_lt_n = omega arith;
+      inside = c.requires.inside;
+      room =
+          stage-room c.loop-i.invariant c.loop-i.i (sym (up_to_at c.args.n c.loop-i.i (omega arith)))
+          (omega (arith, up_to_length c.args.n));
+    }
+
+pub loop-i-preserved : goal.loop-i-preserved
+loop-i-preserved c =
+    let n = c.args.n in
+    stage-onward c.loop-i.invariant c.loop-i.i (sym (up_to_at n c.loop-i.i (omega arith)))
+    (omega (arith, up_to_length n)) _ _ c.put_plan-next.ensures c.put_plan-next.auto.out
+
+pub shape_of-out : goal.shape_of-out
+shape_of-out c = c.loop-i.invariant.kept
+
+pub returns : goal.returns
+unfolding plans_lines
+returns c = stage-end c.loop-i.invariant (omega (arith, up_to_length c.args.n))
