@@ -2,6 +2,7 @@
 // slice.
 
 #![tactic(auto)]
+
 ghost use Rattle.std.specs.Prelude.{◌≡◌, ◌∷◌, ◌≤◌, length};
 ghost use Rattle.semantics.specs.Base.{front};
 ghost use Rattle.semantics.specs.Words.{words_of};

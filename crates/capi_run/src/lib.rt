@@ -1,6 +1,7 @@
 // A run of the C interface: its words, and what a pick, a commit and an ask on it answer.
 
 #![tactic(auto)]
+
 ghost use Rattle.std.specs.Prelude.{◌≡◌, false, ◌≤◌, length};
 ghost use Rattle.semantics.specs.Base.{front};
 ghost use Rattle.step.specs.Value.{decision_of};

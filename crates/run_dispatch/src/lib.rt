@@ -2,6 +2,7 @@
 // its start, and a list of picks on it.
 
 #![tactic(auto)]
+
 ghost use Rattle.semantics.specs.Dispatch.{start_of, pick_numbered, play_on, commit_on};
 ghost use Rattle.run_ticket.specs.Value.{numbered_of, ticket_of, DispatchMeans};
 ghost use Rattle.run_dispatch.specs.Value.{empty_run, LentMeans, RunMeans};
