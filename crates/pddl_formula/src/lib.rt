@@ -2,6 +2,7 @@
 // formula is an atom, in an effect perhaps negated, or an `and` of formulas.
 
 #![tactic(auto)]
+
 ghost use Rattle.std.specs.Prelude.{◌≤◌, length};
 ghost use Rattle.pddl_formula.specs.Inner.Formula.{Ready, Nothing, FactOf};
 ghost use Rattle.pddl_formula.specs.Inner.Formula.{LiteralAt, NegationAt};

@@ -2,6 +2,7 @@
 // their parts stand.
 
 #![tactic(auto)]
+
 ghost use Rattle.pddl_form.specs.declared.Place.TheVariants.{At};
 ghost use Rattle.pddl_formula.specs.Inner.Formula.{Ready};
 ghost use Rattle.pddl_section.specs.Inner.Section.{FormulaEnds, Acts, Masked, ActionsEnd};
