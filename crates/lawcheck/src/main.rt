@@ -2,20 +2,21 @@
 
 #![tactic(auto)]
 ghost use Rattle.std.specs.Prelude.{◌≤◌, ◌≡◌, length};
-ghost use Rattle.libc.specs.Io.{Moved};
+ghost use Rattle.std.specs.Io.{ReadsAtMost, WritesAtMost};
 
-use libc::{EINTR, STDERR_FILENO, STDIN_FILENO, STDOUT_FILENO};
+use std::io;
+use std::io::{ErrorKind, Read, Write};
 
 // A read or write that a signal interrupts before it moves a byte is made again, so often in a
 // row; then it counts as one that failed. Without a bound the program would not provably end;
 // a thousand signals a second reach this one in a quarter of an hour.
 const TRIES: usize = 1000000;
 
-// What was read: so many bytes, and whether a read failed.
-#[derive(Clone, Copy)]
+// What was read: so many bytes, and the error of a read that failed.
+#[derive(Drop)]
 struct Input {
     bytes: usize,
-    failed: bool,
+    failed: Option<io::Error>,
 }
 
 // One byte more than the longest text has: what fills the buffer is no text, and neither is what it
@@ -36,105 +37,105 @@ fn file_room() -> [u8; program::MOST_BYTES]
     [0; program::MOST_BYTES]
 }
 
-// Whether a call that answered so was interrupted before it moved a byte. Asked just after the
-// call, while errno is its own.
-fn interrupted(answer: isize) -> bool {
-    if answer < 0 {
-        os::errno() == EINTR
-    } else {
-        false
+// Whether a call that answered so was interrupted before it moved a byte.
+fn interrupted(answer: &io::Result<usize>) -> bool {
+    match answer {
+        Ok(_) => false,
+        Err(e) => e.kind() == ErrorKind::Interrupted,
     }
 }
 
-// One read, made again where it is interrupted: -1, or the bytes read, 0 at the end of the input.
-fn read_some(buf: &mut [u8]) -> isize
-    ensures { Moved (length buf.old) result }
+// One read, made again where it is interrupted: the bytes read, 0 at the end of the input.
+fn read_some(input: &mut impl Read, buf: &mut [u8]) -> io::Result<usize>
+    ensures { ReadsAtMost result buf.new }
 {
-    let mut tries = 0;
-    while tries < TRIES {
-        let got = libc::read(STDIN_FILENO, buf);
-        if !interrupted(got) {
+    for _ in 1..TRIES {
+        let got = input.read(buf);
+        if !interrupted(&got) {
             return got;
         }
-        tries += 1;
+        let _ = got;
     }
-    -1
+    input.read(buf)
 }
 
-// One write, made again where it is interrupted: -1, or the bytes taken.
-fn write_some(buf: &[u8]) -> isize
-    ensures { Moved (length buf.now) result }
+// One write, made again where it is interrupted: the bytes taken.
+fn write_some(output: &mut impl Write, buf: &[u8]) -> io::Result<usize>
+    ensures { WritesAtMost result buf.now }
 {
-    let mut tries = 0;
-    while tries < TRIES {
-        let put = libc::write(STDOUT_FILENO, buf);
-        if !interrupted(put) {
+    for _ in 1..TRIES {
+        let put = output.write(buf);
+        if !interrupted(&put) {
             return put;
         }
-        tries += 1;
+        let _ = put;
     }
-    -1
+    output.write(buf)
 }
 
 // Reads until the input ends, the buffer is full or a read fails.
-fn read_all(buf: &mut [u8]) -> Input
+fn read_all(input: &mut impl Read, buf: &mut [u8]) -> Input
     ensures { result.bytes ≤ length buf.new }
 {
     let mut done = 0;
     while done < buf.len() {
-        let got = read_some(&mut buf[done..]);
-        if got < 0 {
-            return Input {
-                bytes: done,
-                failed: true,
-            };
+        match read_some(input, &mut buf[done..]) {
+            Ok(0) => break,
+            Ok(n) => done += n,
+            Err(e) => {
+                return Input {
+                    bytes: done,
+                    failed: Some(e),
+                };
+            }
         }
-        let n = io::count(got, &buf[done..]);
-        if n == 0 {
-            return Input {
-                bytes: done,
-                failed: false,
-            };
-        }
-        done += n;
     }
     Input {
         bytes: done,
-        failed: false,
+        failed: None,
     }
+}
+
+// On standard error: which stream failed, and the system's words for the error.
+fn fail(rt: &(impl Eprint + AllocGlobal), stream: &str, error: &io::Error) {
+    let told = match format!(in rt.alloc(); "{error}") {
+        Ok(text) => match text.as_str().split_once(" (os error") {
+            Some((words, _)) => eprintln!(rt; "lawcheck: {stream}: {words}"),
+            None => eprintln!(rt; "lawcheck: {stream}: {error}"),
+        },
+        Err(_) => eprintln!(rt; "lawcheck: {stream}: {error}"),
+    };
+    let _ = told;
 }
 
 // Writes all bytes, or stops at a write that fails or takes nothing, and says so on standard error.
-// A write that takes nothing sets no errno.
-fn print(buf: &[u8]) {
+fn print(rt: &(impl Eprint + AllocGlobal), output: &mut impl Write, buf: &[u8]) {
     let mut done = 0;
     while done < buf.len() {
-        let put = write_some(&buf[done..]);
-        if put < 0 {
-            os::fail(b"lawcheck: standard output");
-            return;
+        match write_some(output, &buf[done..]) {
+            Ok(0) => {
+                let told = eprintln!(rt; "lawcheck: standard output takes no more bytes");
+                let _ = told;
+                return;
+            }
+            Ok(n) => done += n,
+            Err(e) => {
+                fail(rt, "standard output", &e);
+                return;
+            }
         }
-        let n = io::count(put, &buf[done..]);
-        if n == 0 {
-            io::write_all(
-                STDERR_FILENO,
-                b"lawcheck: standard output takes no more bytes\n",
-            );
-            return;
-        }
-        done += n;
     }
 }
 
-fn main() {
+fn main(rt: HostRuntime) {
     let mut text = text_room();
-    let read = read_all(&mut text);
-    if read.failed {
-        os::fail(b"lawcheck: standard input");
+    let read = read_all(&mut rt.stdin(), &mut text);
+    if let Some(e) = read.failed {
+        fail(&rt, "standard input", &e);
         return;
     }
     let n = read.bytes;
     let mut out = file_room();
     let r = program::verdict_file(&text[..n], &mut out);
-    print(&out[..r]);
+    print(&rt, &mut rt.stdout(), &out[..r]);
 }
