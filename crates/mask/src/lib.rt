@@ -2,6 +2,7 @@
 // only here and where a task's words are read is it known how many words a mask takes.
 
 #![tactic(auto)]
+
 ghost use Rattle.std.specs.Prelude.{◌≡◌, ◌<◌, length, eqb};
 ghost use Rattle.semantics.specs.Mask.{has, within, without, after, below};
 ghost use Rattle.semantics.specs.Words.{of_words, words_of, states_in};

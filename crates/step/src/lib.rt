@@ -1,6 +1,7 @@
 // Step: the one routine that says go, wait or collision, and the operation over it.
 
 #![tactic(auto)]
+
 ghost use Rattle.std.specs.Prelude.{◌≡◌, ◌<◌};
 ghost use Rattle.semantics.specs.Task.{check, actions};
 ghost use Rattle.semantics.specs.System.{result_of, system, waits};

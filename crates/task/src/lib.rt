@@ -1,6 +1,7 @@
 // The task check, and readers of an accepted task's rows.
 
 #![tactic(auto)]
+
 ghost use Rattle.std.specs.Prelude.{◌≡◌, true, ◌+◌, ◌*◌, ◌≤◌, ◌<◌, length, eqb};
 ghost use Rattle.semantics.specs.Base.{up_to, first_refusal};
 ghost use Rattle.semantics.specs.Task.{row_width, word, mask_in, facts, members, actions, initial};

@@ -12,12 +12,11 @@ use Rattle.semantics.specs.Base.{◌if◌, ◌else◌, Answer, refused, gives, u
 use Rattle.semantics.specs.Task.{members}
 use Rattle.semantics.specs.System.{system, waits}
 use Rattle.semantics.specs.Step.{Decision}
-use Rattle.semantics.specs.Run.{Run, Replied, pick, run_refusal, pick_on}
+use Rattle.semantics.specs.Run.{Run, Replied, run_refusal, pick_on}
 use Rattle.semantics.specs.Dispatch.{Numbered, counts, Ticket, Asked, ticketed, next_step, pick_numbered, ask_on, commit_on}
-use Rattle.semantics.specs.Demands.{ticket_of, Call, asks, picks, calls, doing, does, TicketGood, Tickets}
+use Rattle.semantics.specs.Demands.{ticket_of, Call, calls, doing, does, TicketGood, Tickets}
 use Rattle.theory.proofs.Refusals.{refused-gives, gives_inj}
 use Rattle.theory.proofs.Picks.{advanced, pick_next, Next, next, next-nobody}
-use Rattle.theory.proofs.Counts.{done}
 use Rattle.theory.proofs.Agrees.Pick.{fits-passes}
 use Rattle.theory.proofs.Agrees.Ask.{ask_fits, fits_ask}
 use Rattle.theory.proofs.Fits.{fits-pick-numbered}

@@ -12,7 +12,7 @@ use lib.Dec.{eqb}
 use Rattle.semantics.specs.Base.{Answer, refused, gives}
 use Rattle.semantics.specs.Task as Task
 use Rattle.semantics.specs.Task.{check, members}
-use Rattle.semantics.specs.System.{able, result_of, Lawful, system, waits}
+use Rattle.semantics.specs.System.{result_of, Lawful, system, waits}
 use Rattle.semantics.specs.Listing.{Reach, here, step}
 use Rattle.semantics.specs.Solo.{copies}
 use Rattle.semantics.specs.Model.{◌⊆◌}

@@ -1,5 +1,4 @@
 -- `mask::word_without` meets its contract: what `a` and `b` have in common is within `a`. Assumes nothing.
-use borrow.Author.Rules.{rules}
 use lib.Bits.{and_le_l}
 use Rattle.mask.proofs.word_without.Goals as goal
 

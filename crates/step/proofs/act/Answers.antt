@@ -1,5 +1,4 @@
 -- `step::act` meets its contract: one law for each way out. Assumes nothing.
-use borrow.Author.Rules.{rules}
 use Rattle.step.proofs.Laws.{act-lacks, act-goes}
 use Rattle.step.proofs.act.Goals as goal
 

@@ -1,5 +1,4 @@
 -- `step::decide` meets its contract: one law for each way out. Assumes nothing.
-use borrow.Author.Rules.{rules}
 use Rattle.step.proofs.Laws.{waits_there, goes-there, collides-there}
 use Rattle.step.proofs.decide.Goals as goal
 

@@ -1,5 +1,4 @@
 -- `step::local_act` meets its contract. Assumes nothing.
-use borrow.Author.Rules.{rules}
 use Rattle.step.proofs.Laws.{local-goes, local-lacks}
 use Rattle.step.proofs.local_act.Goals as goal
 

@@ -1,5 +1,4 @@
 -- `step::local_result` meets its contract. Assumes nothing.
-use borrow.Author.Rules.{rules}
 use Rattle.step.proofs.Laws.{result-goes, result-stays}
 use Rattle.step.proofs.local_result.Goals as goal
 

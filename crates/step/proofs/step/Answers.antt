@@ -1,5 +1,4 @@
 -- `step::step` meets its contract: one law for each way out. Assumes nothing.
-use borrow.Author.Rules.{rules}
 use Rattle.step.proofs.Laws.{step-task, step-action, step-shared, step-decides}
 use Rattle.step.proofs.step.Goals as goal
 

@@ -1,5 +1,4 @@
 -- `step::waits` meets its contract. Assumes nothing.
-use borrow.Author.Rules.{rules}
 use Rattle.step.proofs.Laws.{waits-is}
 use Rattle.step.proofs.waits.Goals as goal
 

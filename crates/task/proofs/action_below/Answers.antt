@@ -1,5 +1,4 @@
 -- `task::action_below` meets its contract. Assumes nothing.
-use borrow.Author.Rules.{rules}
 use Rattle.task.proofs.Laws.{fits-row}
 use Rattle.task.proofs.action_below.Goals as goal
 

@@ -1,5 +1,4 @@
 -- `task::action_mask` meets its contract. Assumes nothing.
-use borrow.Author.Rules.{rules}
 use Rattle.task.proofs.Laws.{mask-row}
 use Rattle.task.proofs.action_mask.Goals as goal
 

@@ -1,5 +1,4 @@
 -- `task::action_row` meets its contract: one law for each way out. Assumes nothing.
-use borrow.Author.Rules.{rules}
 use Rattle.task.proofs.Laws.{no-owner, masks_above, wait-outside, action-right}
 use Rattle.task.proofs.action_row.Goals as goal
 

@@ -1,9 +1,5 @@
 -- `task::action_rows` meets its contract: the first refusal of all rows is that of the rows from a on. Assumes nothing.
-use borrow.Author.Rules.{rules}
-use Prim.Native.Nat.{◌-◌}
-use Rattle.semantics.specs.Base.{up_to, first_refusal}
-use Rattle.semantics.specs.Task.{action_row, actions}
-use Rattle.theory.proofs.Loops.{Rest, rest-begin}
+use Rattle.theory.proofs.Loops.{rest-begin}
 use Rattle.task.proofs.Refusals.{onward_up_to, out_up_to, end_up_to}
 use Rattle.task.proofs.action_rows.Goals as goal
 

@@ -1,9 +1,7 @@
-use borrow.Author.Rules.{rules}
 use Prim.Native.Nat.{◌-◌}
 use Rattle.semantics.specs.Base.{up_to, first_refusal}
 use Rattle.semantics.specs.Task.{action_row, actions}
-use Rattle.theory.proofs.Loops.{Rest, rest-begin}
-use Rattle.task.proofs.Refusals.{onward_up_to, out_up_to, end_up_to}
+use Rattle.theory.proofs.Loops.{Rest}
 use Rattle.task.proofs.action_rows.Given as goal
 
 abbrev pub invariant-loop-a : goal.invariant-loop-a

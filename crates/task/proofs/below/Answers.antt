@@ -1,5 +1,4 @@
 -- `task::below` meets its contract. Assumes nothing.
-use borrow.Author.Rules.{rules}
 use native.Mathlib.Omega.{arith}
 use Rattle.task.proofs.Laws.{below-is}
 use Rattle.task.proofs.below.Goals as goal

@@ -1,5 +1,4 @@
 -- `task::goal_row` meets its contract: one law for each way out. Assumes nothing.
-use borrow.Author.Rules.{rules}
 use Rattle.task.proofs.Laws.{wrong_member, wrong_zeros, goal_above, goal-right}
 use Rattle.task.proofs.goal_row.Goals as goal
 

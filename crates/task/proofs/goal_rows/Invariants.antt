@@ -1,9 +1,7 @@
-use borrow.Author.Rules.{rules}
 use Prim.Native.Nat.{◌-◌}
 use Rattle.semantics.specs.Base.{up_to, first_refusal}
 use Rattle.semantics.specs.Task.{goal_row, members}
-use Rattle.theory.proofs.Loops.{Rest, rest-begin}
-use Rattle.task.proofs.Refusals.{onward_up_to, out_up_to, end_up_to}
+use Rattle.theory.proofs.Loops.{Rest}
 use Rattle.task.proofs.goal_rows.Given as goal
 
 abbrev pub invariant-loop-i : goal.invariant-loop-i

@@ -1,5 +1,4 @@
 -- `task::head_fits` meets its contract: one law for each way out. Assumes nothing.
-use borrow.Author.Rules.{rules}
 use Rattle.task.proofs.Laws.{no-facts, many-facts, no-members, many-members, many-actions, head-last}
 use Rattle.task.proofs.head_fits.Goals as goal
 

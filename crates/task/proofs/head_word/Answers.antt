@@ -1,5 +1,4 @@
 -- `task::head_word` meets its contract: an accepted task has the length of its rows. Assumes nothing.
-use borrow.Author.Rules.{rules}
 use native.Mathlib.Omega.{arith}
 use Rattle.theory.proofs.Accepted.{accepted}
 use Rattle.task.proofs.head_word.Goals as goal

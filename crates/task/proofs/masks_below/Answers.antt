@@ -1,5 +1,4 @@
 -- `task::masks_below` meets its contract: one law for each way out. Assumes nothing.
-use borrow.Author.Rules.{rules}
 use Rattle.task.proofs.Laws.{pre_above, wait_above, add_above, masks-last}
 use Rattle.task.proofs.masks_below.Goals as goal
 

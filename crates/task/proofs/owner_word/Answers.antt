@@ -1,5 +1,4 @@
 -- `task::owner_word` meets its contract. Assumes nothing.
-use borrow.Author.Rules.{rules}
 use Rattle.task.proofs.Laws.{word_row}
 use Rattle.task.proofs.owner_word.Goals as goal
 

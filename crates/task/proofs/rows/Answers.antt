@@ -1,5 +1,4 @@
 -- `task::rows` meets its contract: one law for each way out. Assumes nothing.
-use borrow.Author.Rules.{rules}
 use Rattle.task.proofs.Refusals.{first-refuses, second-decides}
 use Rattle.task.proofs.rows.Goals as goal
 

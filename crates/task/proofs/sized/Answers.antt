@@ -1,5 +1,4 @@
 -- `task::sized` meets its contract: n and m are in their ranges, so the product fits. Assumes nothing.
-use borrow.Author.Rules.{rules}
 use Rattle.task.proofs.Laws.{head_bounds}
 use native.Mathlib.Omega.{arith}
 use Rattle.task.proofs.sized.Goals as goal

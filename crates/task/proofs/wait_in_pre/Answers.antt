@@ -1,5 +1,4 @@
 -- `task::wait_in_pre` meets its contract. Assumes nothing.
-use borrow.Author.Rules.{rules}
 use Rattle.task.proofs.Laws.{within-is}
 use Rattle.task.proofs.wait_in_pre.Goals as goal
 

@@ -1,7 +1,5 @@
 -- `task::zeros` meets its contract: the words from k + j on tell. Assumes nothing.
-use borrow.Author.Rules.{rules}
-use Prim.Native.Nat.{◌-◌}
-use Rattle.task.proofs.Laws.{Zeros, zeros-begin, zeros_fail, zeros-onward, zeros-end}
+use Rattle.task.proofs.Laws.{zeros-begin, zeros_fail, zeros-onward, zeros-end}
 use Rattle.task.proofs.zeros.Goals as goal
 
 pub loop-j-init : goal.loop-j-init

@@ -1,6 +1,5 @@
-use borrow.Author.Rules.{rules}
 use Prim.Native.Nat.{◌-◌}
-use Rattle.task.proofs.Laws.{Zeros, zeros-begin, zeros_fail, zeros-onward, zeros-end}
+use Rattle.task.proofs.Laws.{Zeros}
 use Rattle.task.proofs.zeros.Given as goal
 
 abbrev pub invariant-loop-j : goal.invariant-loop-j

@@ -22,7 +22,6 @@ use Rattle.semantics.specs.Demands.{facts_of, setting, world_of, world_at, Outco
 use Rattle.semantics.specs.Demands.{JointReplayAgrees}
 use Rattle.theory.proofs.Lists.{apart, and_elim, all_true, true-all, up_to_mem, mem_up_to}
 use Rattle.theory.proofs.Refusals.{else_both, if_not-true, no-refusal, refused-gives, up_to_refusal, unless-gives}
-use Rattle.theory.proofs.Accepted.{accepted}
 use Rattle.theory.proofs.Complete.{closed-outcome}
 use Rattle.theory.proofs.Plans.{leads-solves, leads-entries}
 use Rattle.theory.proofs.Agrees.Step.{same-facts}
