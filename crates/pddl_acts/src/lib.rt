@@ -2,6 +2,7 @@
 // facts that they name are known, and their rows. Within the limits each is read once.
 
 #![tactic(auto)]
+
 ghost use Rattle.std.specs.Prelude.{◌≡◌, ◌+◌, ◌*◌, ◌≤◌, length};
 ghost use Rattle.semantics.specs.Words.{states_in};
 ghost use Rattle.semantics.specs.Task.{row_width};

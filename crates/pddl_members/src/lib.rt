@@ -2,6 +2,7 @@
 // ones stand.
 
 #![tactic(auto)]
+
 ghost use Rattle.std.specs.Prelude.{◌≡◌, ◌+◌, ◌*◌, ◌≤◌, ◌<◌, length};
 ghost use Rattle.pddl_theory.specs.Inner.Appended.{row, Appended};
 ghost use Rattle.pddl_section.specs.Inner.Section.{Members};

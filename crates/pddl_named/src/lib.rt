@@ -2,6 +2,7 @@
 // where it may not, and the members agree. In the same pass their rows are made.
 
 #![tactic(auto)]
+
 ghost use Rattle.std.specs.Prelude.{◌≡◌, ◌+◌, ◌*◌, ◌≤◌, length, ◌&&◌};
 ghost use Rattle.semantics.specs.Base.{all_of};
 ghost use Rattle.semantics.specs.Words.{states_in};

@@ -1,12 +1,13 @@
 // A reader of PDDL: it keeps hold on the lent text together with the next byte to read. Each
-// function is thin over one on a slice and an offset, and is proved by a walk.
+// function is thin over one on a slice and an offset.
 
 #![tactic(auto)]
+
 ghost use Rattle.std.specs.Prelude.{◌≡◌};
 ghost use Rattle.pddl_section.specs.Inner.Section.{Members};
 
 // The lent text, and the offset of its next byte.
-#[derive(Drop)]
+#[derive(Clone, Copy)]
 pub struct Reader<'a> {
     pub text: &'a [u8],
     pub at: usize,
@@ -26,7 +27,7 @@ pub fn member<'a>(r: Reader<'a>) -> pddl_section::Member
     pddl_section::member_at(r.text, r.at)
 }
 
-// A member from an offset on. Its parameters are plain: whoever calls it needs no walk.
+// A member from an offset on. Its parameters are plain.
 pub fn member_at(text: &[u8], at: usize) -> pddl_section::Member
     ensures { Members text.now at result }
 {
