@@ -2,6 +2,7 @@
 // waits, in; the words of the task out.
 
 #![tactic(auto)]
+
 ghost use Rattle.std.specs.Prelude.{◌≡◌, ◌*◌, ◌≤◌, length};
 ghost use Rattle.semantics.specs.Words.{states_in};
 ghost use Rattle.semantics.specs.Task.{row_width};

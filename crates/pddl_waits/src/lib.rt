@@ -2,6 +2,7 @@
 // one after the other.
 
 #![tactic(auto)]
+
 ghost use Rattle.std.specs.Prelude.{◌≡◌, ◌≤◌, max, length};
 ghost use Rattle.semantics.specs.Base.{zeroed};
 ghost use Rattle.pddl_waits.specs.Inner.Wait.{WaitMeans};

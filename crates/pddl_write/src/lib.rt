@@ -2,6 +2,7 @@
 // on, as far as the slice goes, and answers the place after them: in an empty slice it only counts.
 
 #![tactic(auto)]
+
 ghost use Rattle.std.specs.Prelude.{◌≡◌, [], ◌∷◌, ◌-◌, ◌^◌, ◌≤◌, ◌<◌, length};
 ghost use Rattle.semantics.specs.Base.{up_to, padded};
 ghost use Rattle.semantics.specs.Mask.{has, standing};

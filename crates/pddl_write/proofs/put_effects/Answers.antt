@@ -1,0 +1,14 @@
+-- `pddl_write::put_effects` meets its contract. Assumes nothing.
+use borrow.Author.Rules.{rules}
+use Rattle.semantics.specs.Base.{numbers_from}
+use Rattle.semantics.specs.PddlWrite.{spelt, effects_text}
+use Rattle.pddl_write.proofs.Laws.{put_then, put-mask}
+use Rattle.pddl_write.proofs.put_effects.Goals as goal
+
+pub returns : goal.returns
+unfolding spelt numbers_from effects_text
+returns c =
+    put_then c.put-adds.ensures
+    (put_then (put-mask _ _ _ _ _ c.put_atoms-dels.ensures c.facts-below.ensures.value c.made.ensures)
+    (put_then (put-mask _ _ _ _ _ c.put_negations-end.ensures c.facts-below.ensures.value c.del.ensures)
+    c.put.ensures))

@@ -1,0 +1,30 @@
+-- `pddl_write::put_facts` meets its contract. Assumes nothing.
+use Prim.Native.Nat.{◌-◌}
+use native.Mathlib.Omega.{arith}
+use borrow.Author.Rules.{rules}
+use Rattle.semantics.specs.Mask.{has, standing}
+use Rattle.semantics.specs.PddlWrite.{each}
+use Rattle.mask.specs.Number.{number}
+use Rattle.pddl_write.specs.Inner.Put.{between}
+use Rattle.pddl_write.proofs.Laws.{Stage, stage-begin, stage-put, stage-end, left, each_at, each_none}
+use Rattle.pddl_write.proofs.put_facts.Goals as goal
+
+pub loop-f-init : goal.loop-f-init
+unfolding standing
+loop-f-init c = stage-begin
+
+pub loop-f-preserved : goal.loop-f-preserved
+loop-f-preserved c =
+    stage-put c.loop-f.invariant _ c.put_fact-next.ensures c.put_fact-next.auto.out
+    (each_at (λ g. has g (number c.args.m)) c.args.facts c.loop-f.f
+    (between c.args.before.now c.args.after.now) (omega arith))
+
+pub shape_of-out : goal.shape_of-out
+shape_of-out c = c.loop-f.invariant.kept
+
+pub returns : goal.returns
+unfolding standing
+returns c =
+    stage-end c.loop-f.invariant
+    (each_none (λ g. has g (number c.args.m)) c.args.facts c.loop-f.f
+    (between c.args.before.now c.args.after.now) (omega arith))

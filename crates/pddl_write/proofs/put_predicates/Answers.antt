@@ -1,0 +1,7 @@
+-- `pddl_write::put_predicates` meets its contract. Assumes nothing.
+use borrow.Author.Rules.{rules}
+use Rattle.pddl_write.proofs.Laws.{put-all}
+use Rattle.pddl_write.proofs.put_predicates.Goals as goal
+
+pub returns : goal.returns
+returns c = search put-all
