@@ -21,20 +21,32 @@ pub beginning-requires : goal.beginning-requires
 beginning-requires c = omega (arith, (checked-part _ _ _ c.args.j c.requires.ends_value c.requires.j_bound).many)
 
 pub overflow_add-at : goal.overflow_add-at
-overflow_add-at c = omega (arith, inside _ _ _ _ _ c.requires.ends_value c.requires.j_bound c.requires.k_in_bounds, c.beginning.ensures)
+overflow_add-at c =
+    omega (
+      arith,
+      inside _ _ _ _ _ c.requires.ends_value c.requires.j_bound c.requires.k_in_bounds,
+      c.beginning.ensures,
+    )
 
 pub offset_bounds-plans-at : goal.offset_bounds-plans-at
-offset_bounds-plans-at c = omega (arith, inside _ _ _ _ _ c.requires.ends_value c.requires.j_bound c.requires.k_in_bounds, c.beginning.ensures)
+offset_bounds-plans-at c =
+    omega (
+      arith,
+      inside _ _ _ _ _ c.requires.ends_value c.requires.j_bound c.requires.k_in_bounds,
+      c.beginning.ensures,
+    )
 
 pub bounds-plans-at : goal.bounds-plans-at
-bounds-plans-at c = omega (arith, inside _ _ _ _ _ c.requires.ends_value c.requires.j_bound c.requires.k_in_bounds, c.beginning.ensures)
+bounds-plans-at c =
+    omega (
+      arith,
+      inside _ _ _ _ _ c.requires.ends_value c.requires.j_bound c.requires.k_in_bounds,
+      c.beginning.ensures,
+    )
 
 pub overflow_cast-result : goal.overflow_cast-result
 overflow_cast-result c =
-    omega (
-      arith,
-      c.type_inv.plans (c.beginning.result + c.args.k),
-    )
+    omega (arith, c.type_inv.plans (c.beginning.result + c.args.k))
 
 pub returns : goal.returns
 returns c =

@@ -22,4 +22,6 @@ overflow_sub-result c =
     omega (arith, p.many, p.begins, p.within)
 
 pub returns : goal.returns
-returns c = omega (arith, plan-length c.args.plans.now c.args.ends.now c.args.j (checked-part _ _ _ c.args.j c.requires.ends_value c.requires.j_bound))
+returns c =
+    let p = checked-part _ _ _ c.args.j c.requires.ends_value c.requires.j_bound in
+    omega (arith, plan-length c.args.plans.now c.args.ends.now c.args.j p)
