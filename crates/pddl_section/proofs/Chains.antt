@@ -26,7 +26,6 @@ use Rattle.mask.specs.declared.Mask.{Mask}
 use Rattle.pddl_section.specs.declared.Act.{Act}
 use Rattle.pddl_section.specs.declared.Domain.{Domain}
 use Rattle.pddl_section.specs.declared.Problem.{Problem}
-use Rattle.pddl_section.specs.declared.Member.{Member}
 use Rattle.pddl_section.proofs.Lists.{formula-ends}
 use Rattle.pddl_section.proofs.Patterns.{action-opening, parameters, effect-word, domain-opening}
 use Rattle.pddl_section.proofs.Patterns.{problem-opening}

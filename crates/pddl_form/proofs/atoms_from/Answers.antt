@@ -1,9 +1,7 @@
 -- `pddl_form::atoms_from` meets its contract.
 use borrow.Author.Rules.{rules}
 use native.Mathlib.Omega.{arith}
-use Prim.Native.Nat.{◌-◌}
-use lib.ListN.{length}
-use Rattle.pddl_form.proofs.Lists.{Passing, passing_begin, passing_on, passing_end, atom-onward}
+use Rattle.pddl_form.proofs.Lists.{passing_begin, passing_on, passing_end, atom-onward}
 use Rattle.pddl_form.proofs.atoms_from.Goals as goal
 
 pub loop-n-init : goal.loop-n-init

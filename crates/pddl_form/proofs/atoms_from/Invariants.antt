@@ -1,8 +1,6 @@
-use borrow.Author.Rules.{rules}
-use native.Mathlib.Omega.{arith}
 use Prim.Native.Nat.{◌-◌}
 use lib.ListN.{length}
-use Rattle.pddl_form.proofs.Lists.{Passing, passing_begin, passing_on, passing_end, atom-onward}
+use Rattle.pddl_form.proofs.Lists.{Passing}
 use Rattle.pddl_form.proofs.atoms_from.Given as goal
 
 abbrev pub invariant-loop-n : goal.invariant-loop-n

@@ -1,8 +1,6 @@
 -- `pddl_form::expect_from` meets its contract.
 use borrow.Author.Rules.{rules}
-use Prim.Native.Nat.{◌-◌}
-use lib.ListN.{length}
-use Rattle.pddl_form.proofs.Tokens.{Expecting, expecting_begin, expecting_end, expecting_out, expecting_on}
+use Rattle.pddl_form.proofs.Tokens.{expecting_begin, expecting_end, expecting_out, expecting_on}
 use Rattle.pddl_form.proofs.Tokens.{behind-within, expecting_less}
 use Rattle.pddl_form.proofs.expect_from.Goals as goal
 

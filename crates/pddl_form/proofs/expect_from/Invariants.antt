@@ -1,8 +1,6 @@
-use borrow.Author.Rules.{rules}
 use Prim.Native.Nat.{◌-◌}
 use lib.ListN.{length}
-use Rattle.pddl_form.proofs.Tokens.{Expecting, expecting_begin, expecting_end, expecting_out, expecting_on}
-use Rattle.pddl_form.proofs.Tokens.{behind-within, expecting_less}
+use Rattle.pddl_form.proofs.Tokens.{Expecting}
 use Rattle.pddl_form.proofs.expect_from.Given as goal
 
 abbrev pub invariant-loop-w : goal.invariant-loop-w

@@ -1,10 +1,7 @@
 -- `pddl_form::stands` meets its contract.
 use borrow.Author.Rules.{rules}
 use native.Mathlib.Omega.{arith}
-use Prim.Native.Nat.{◌-◌}
-use lib.ListN.{length}
-use Rattle.pddl_theory.specs.Inner.Place.{span}
-use Rattle.pddl_form.proofs.Lists.{Seeking, seeking_begin, seeking_found, seeking_on, seeking_end, atom-onward}
+use Rattle.pddl_form.proofs.Lists.{seeking_begin, seeking_found, seeking_on, seeking_end, atom-onward}
 use Rattle.pddl_form.proofs.stands.Goals as goal
 
 pub loop-n-init : goal.loop-n-init

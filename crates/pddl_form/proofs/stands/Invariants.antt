@@ -1,9 +1,7 @@
-use borrow.Author.Rules.{rules}
-use native.Mathlib.Omega.{arith}
 use Prim.Native.Nat.{◌-◌}
 use lib.ListN.{length}
 use Rattle.pddl_theory.specs.Inner.Place.{span}
-use Rattle.pddl_form.proofs.Lists.{Seeking, seeking_begin, seeking_found, seeking_on, seeking_end, atom-onward}
+use Rattle.pddl_form.proofs.Lists.{Seeking}
 use Rattle.pddl_form.proofs.stands.Given as goal
 
 abbrev pub invariant-loop-n : goal.invariant-loop-n

@@ -1,7 +1,7 @@
 -- The cycle of calls of `formula` and `formulas`: the allowance falls from an `and` to the list in it, and a list asks
 -- for formulas at its own allowance.
 use Rattle.std.proofs.Common.{rules}
-use Rattle.pddl_formula.proofs.Lists.{word_in, no_open, no_close, no_end, no_stray}
+use Rattle.pddl_formula.proofs.Lists.{no_open, no_close, no_end, no_stray}
 use Rattle.pddl_formula.proofs.Lists.{deep_and, an_and, a-not, barred_not, an_atom}
 use Rattle.pddl_formula.proofs.Lists.{list_begin, list_less, list_on, list_out, list_end}
 use Rattle.pddl_formula.proofs.Lists.{list_word, list_cut, list_stray}

@@ -1,10 +1,8 @@
 -- `pddl_list::alike` meets its contract.
 use borrow.Author.Rules.{rules}
 use native.Mathlib.Omega.{arith}
-use Prim.Native.Nat.{◌-◌}
-use lib.ListN.{length}
 use Rattle.pddl_form.proofs.Lists.{atom-onward}
-use Rattle.pddl_list.proofs.Asking.{Comparing, comparing_begin, alike_on, alike_not}
+use Rattle.pddl_list.proofs.Asking.{comparing_begin, alike_on, alike_not}
 use Rattle.pddl_list.proofs.Asking.{alike_longer, alike_shorter, alike_end}
 use Rattle.pddl_list.proofs.alike.Goals as goal
 

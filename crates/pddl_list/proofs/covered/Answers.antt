@@ -1,13 +1,8 @@
 -- `pddl_list::covered` meets its contract.
 use borrow.Author.Rules.{rules}
 use native.Mathlib.Omega.{arith}
-use Prim.Native.Nat.{◌-◌}
-use lib.ListN.{length}
 use Rattle.pddl_form.proofs.Lists.{atom-onward}
-use Rattle.semantics.specs.Base.{all_of}
-use Rattle.semantics.specs.Pddl.{is_in}
-use Rattle.pddl_theory.proofs.Turns.{Asked, asked-begin}
-use Rattle.pddl_form.specs.Inner.Place.{atoms_from}
+use Rattle.pddl_theory.proofs.Turns.{asked-begin}
 use Rattle.pddl_list.proofs.Asking.{covered_not, covered_on, covered_end}
 use Rattle.pddl_list.proofs.covered.Goals as goal
 

@@ -1,12 +1,8 @@
 -- `pddl_list::distinct` meets its contract.
 use borrow.Author.Rules.{rules}
 use native.Mathlib.Omega.{arith}
-use Prim.Native.Nat.{◌-◌}
-use lib.ListN.{length}
 use Rattle.pddl_form.proofs.Lists.{atom-onward}
-use Rattle.semantics.specs.Pddl.{none_twice}
-use Rattle.pddl_theory.proofs.Turns.{Asked, asked-begin}
-use Rattle.pddl_form.specs.Inner.Place.{atoms_from}
+use Rattle.pddl_theory.proofs.Turns.{asked-begin}
 use Rattle.pddl_list.proofs.Asking.{distinct-not, distinct-on, distinct-end}
 use Rattle.pddl_list.proofs.distinct.Goals as goal
 

@@ -1,8 +1,6 @@
-use borrow.Author.Rules.{rules}
-use native.Mathlib.Omega.{arith}
-use Prim.Native.Nat.{◌+◌, ◌-◌}
+use Prim.Native.Nat.{◌-◌}
 use lib.ListN.{length}
-use Rattle.pddl_list.proofs.Twice.{Looking, looking_begin, part_in, looking_found, looking_on, looking_end}
+use Rattle.pddl_list.proofs.Twice.{Looking}
 use Rattle.pddl_list.proofs.distinct_in.Given as goal
 
 abbrev pub invariant-loop-i : goal.invariant-loop-i

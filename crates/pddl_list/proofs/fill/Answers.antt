@@ -1,10 +1,6 @@
 -- `pddl_list::fill` meets its contract.
 use borrow.Author.Rules.{rules}
-use native.Mathlib.Omega.{arith}
-use Prim.Native.Nat.{◌-◌}
-use Rattle.pddl_theory.specs.Inner.Limits.{most_facts}
-use Rattle.pddl_form.specs.Inner.Place.{atoms_from}
-use Rattle.pddl_list.proofs.Filling.{Filling, filling_begin, filling_room, filling_on, filling_out, filling_end}
+use Rattle.pddl_list.proofs.Filling.{filling_begin, filling_room, filling_on, filling_out, filling_end}
 use Rattle.pddl_list.proofs.fill.Goals as goal
 
 pub loop-n-init : goal.loop-n-init

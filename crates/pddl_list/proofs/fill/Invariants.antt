@@ -1,9 +1,7 @@
-use borrow.Author.Rules.{rules}
-use native.Mathlib.Omega.{arith}
 use Prim.Native.Nat.{◌-◌}
 use Rattle.pddl_theory.specs.Inner.Limits.{most_facts}
 use Rattle.pddl_form.specs.Inner.Place.{atoms_from}
-use Rattle.pddl_list.proofs.Filling.{Filling, filling_begin, filling_room, filling_on, filling_out, filling_end}
+use Rattle.pddl_list.proofs.Filling.{Filling}
 use Rattle.pddl_list.proofs.fill.Given as goal
 
 abbrev pub invariant-loop-n : goal.invariant-loop-n

@@ -1,5 +1,4 @@
 -- `pddl_name::is_name` meets its contract.
-use borrow.Author.Rules.{rules}
 use Rattle.pddl_name.proofs.Parts.{no_name, is_name_lem}
 use Rattle.pddl_name.proofs.is_name.Goals as goal
 

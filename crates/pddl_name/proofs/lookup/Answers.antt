@@ -1,9 +1,6 @@
 -- `pddl_name::lookup` meets its contract.
-use native.Mathlib.Omega.{arith}
-use Prim.Native.Nat.{◌+◌, ◌-◌}
-use lib.ListN.{length}
-use Rattle.pddl_theory.specs.Inner.Place.{span}
-use Rattle.pddl_name.proofs.Looking.{Looking, look_begin, look_found, look_on, look_end}
+use Prim.Native.Nat.{◌+◌}
+use Rattle.pddl_name.proofs.Looking.{look_begin, look_found, look_on, look_end}
 use Rattle.pddl_name.proofs.lookup.Goals as goal
 
 pub loop-i-init : goal.loop-i-init

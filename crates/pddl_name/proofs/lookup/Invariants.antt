@@ -1,8 +1,7 @@
-use native.Mathlib.Omega.{arith}
-use Prim.Native.Nat.{◌+◌, ◌-◌}
+use Prim.Native.Nat.{◌-◌}
 use lib.ListN.{length}
 use Rattle.pddl_theory.specs.Inner.Place.{span}
-use Rattle.pddl_name.proofs.Looking.{Looking, look_begin, look_found, look_on, look_end}
+use Rattle.pddl_name.proofs.Looking.{Looking}
 use Rattle.pddl_name.proofs.lookup.Given as goal
 
 abbrev pub invariant-loop-i : goal.invariant-loop-i

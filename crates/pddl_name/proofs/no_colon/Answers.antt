@@ -1,8 +1,6 @@
 -- `pddl_name::no_colon` meets its contract.
 use borrow.Author.Rules.{rules}
-use native.Mathlib.Omega.{arith}
-use Prim.Native.Nat.{◌-◌}
-use Rattle.pddl_name.proofs.Parts.{Plain, plain-begin, colon, plain-on, plain_end}
+use Rattle.pddl_name.proofs.Parts.{plain-begin, colon, plain-on, plain_end}
 use Rattle.pddl_name.proofs.no_colon.Goals as goal
 
 pub loop-i-init : goal.loop-i-init

@@ -1,5 +1,4 @@
 -- `pddl_name::same` meets its contract.
-use borrow.Author.Rules.{rules}
 use Rattle.pddl_name.proofs.Parts.{none_here, none-there, lengths_differ, lasts_differ}
 use Rattle.pddl_name.proofs.same.Goals as goal
 

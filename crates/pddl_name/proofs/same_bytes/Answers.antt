@@ -1,8 +1,6 @@
 -- `pddl_name::same_bytes` meets its contract.
 use borrow.Author.Rules.{rules}
-use native.Mathlib.Omega.{arith}
-use Prim.Native.Nat.{◌-◌}
-use Rattle.pddl_name.proofs.Parts.{Agree, agree-begin, shorter, differ, agree_on, agree-end}
+use Rattle.pddl_name.proofs.Parts.{agree-begin, shorter, differ, agree_on, agree-end}
 use Rattle.pddl_name.proofs.same_bytes.Goals as goal
 
 pub loop-i-init : goal.loop-i-init

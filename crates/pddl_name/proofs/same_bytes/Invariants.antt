@@ -1,7 +1,5 @@
-use borrow.Author.Rules.{rules}
-use native.Mathlib.Omega.{arith}
 use Prim.Native.Nat.{◌-◌}
-use Rattle.pddl_name.proofs.Parts.{Agree, agree-begin, shorter, differ, agree_on, agree-end}
+use Rattle.pddl_name.proofs.Parts.{Agree}
 use Rattle.pddl_name.proofs.same_bytes.Given as goal
 
 abbrev pub invariant-loop-i : goal.invariant-loop-i

@@ -1,5 +1,4 @@
 -- `pddl_section::action_at` meets its contract.
-use borrow.Author.Rules.{rules}
 use Rattle.pddl_section.proofs.Chains.{an_action_masked}
 use Rattle.pddl_section.proofs.action_at.Goals as goal
 

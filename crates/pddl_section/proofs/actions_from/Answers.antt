@@ -1,9 +1,7 @@
 -- `pddl_section::actions_from` meets its contract.
 use borrow.Author.Rules.{rules}
 use native.Mathlib.Omega.{arith}
-use Prim.Native.Nat.{◌-◌}
-use lib.ListN.{length}
-use Rattle.pddl_section.proofs.Lists.{Acting, acting_begin, acting_on, acting_end, action-onward}
+use Rattle.pddl_section.proofs.Lists.{acting_begin, acting_on, acting_end, action-onward}
 use Rattle.pddl_section.proofs.actions_from.Goals as goal
 
 pub loop-n-init : goal.loop-n-init

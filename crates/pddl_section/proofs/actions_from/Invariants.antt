@@ -1,8 +1,6 @@
-use borrow.Author.Rules.{rules}
-use native.Mathlib.Omega.{arith}
 use Prim.Native.Nat.{◌-◌}
 use lib.ListN.{length}
-use Rattle.pddl_section.proofs.Lists.{Acting, acting_begin, acting_on, acting_end, action-onward}
+use Rattle.pddl_section.proofs.Lists.{Acting}
 use Rattle.pddl_section.proofs.actions_from.Given as goal
 
 abbrev pub invariant-loop-n : goal.invariant-loop-n

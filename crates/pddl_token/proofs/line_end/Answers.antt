@@ -1,8 +1,6 @@
 -- `pddl_token::line_end` meets its contract: the invariant is that of Reading.antt. Assumes nothing.
 use borrow.Author.Rules.{rules}
-use Prim.Native.Nat.{◌-◌}
-use lib.ListN.{length}
-use Rattle.pddl_token.proofs.Reading.{Noting, note_begin, note_onward, note_out, note_end}
+use Rattle.pddl_token.proofs.Reading.{note_begin, note_onward, note_out, note_end}
 use Rattle.pddl_token.proofs.line_end.Goals as goal
 
 pub loop-i-init : goal.loop-i-init

@@ -1,7 +1,6 @@
-use borrow.Author.Rules.{rules}
 use Prim.Native.Nat.{◌-◌}
 use lib.ListN.{length}
-use Rattle.pddl_token.proofs.Reading.{Noting, note_begin, note_onward, note_out, note_end}
+use Rattle.pddl_token.proofs.Reading.{Noting}
 use Rattle.pddl_token.proofs.line_end.Given as goal
 
 abbrev pub invariant-loop-i : goal.invariant-loop-i

@@ -1,8 +1,6 @@
 -- `pddl_token::skip` meets its contract: the invariant is that of Reading.antt. Assumes nothing.
 use borrow.Author.Rules.{rules}
-use Prim.Native.Nat.{◌-◌}
-use lib.ListN.{length}
-use Rattle.pddl_token.proofs.Reading.{Skipping, skip-begin, skip_note, skip-less, skip_blank, skip-out}
+use Rattle.pddl_token.proofs.Reading.{skip-begin, skip_note, skip-less, skip_blank, skip-out}
 use Rattle.pddl_token.proofs.Reading.{skip-end}
 use Rattle.pddl_token.proofs.skip.Goals as goal
 

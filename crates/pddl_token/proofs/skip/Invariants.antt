@@ -1,8 +1,6 @@
-use borrow.Author.Rules.{rules}
 use Prim.Native.Nat.{◌-◌}
 use lib.ListN.{length}
-use Rattle.pddl_token.proofs.Reading.{Skipping, skip-begin, skip_note, skip-less, skip_blank, skip-out}
-use Rattle.pddl_token.proofs.Reading.{skip-end}
+use Rattle.pddl_token.proofs.Reading.{Skipping}
 use Rattle.pddl_token.proofs.skip.Given as goal
 
 abbrev pub invariant-loop-i : goal.invariant-loop-i

@@ -1,8 +1,6 @@
 -- `pddl_token::word_end` meets its contract: the invariant is that of Reading.antt. Assumes nothing.
 use borrow.Author.Rules.{rules}
-use Prim.Native.Nat.{◌-◌}
-use lib.ListN.{length}
-use Rattle.pddl_token.proofs.Reading.{Wording, word-begin, word-onward, word_out, word_end}
+use Rattle.pddl_token.proofs.Reading.{word-begin, word-onward, word_out, word_end}
 use Rattle.pddl_token.proofs.word_end.Goals as goal
 
 pub loop-i-init : goal.loop-i-init

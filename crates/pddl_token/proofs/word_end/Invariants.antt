@@ -1,7 +1,6 @@
-use borrow.Author.Rules.{rules}
 use Prim.Native.Nat.{◌-◌}
 use lib.ListN.{length}
-use Rattle.pddl_token.proofs.Reading.{Wording, word-begin, word-onward, word_out, word_end}
+use Rattle.pddl_token.proofs.Reading.{Wording}
 use Rattle.pddl_token.proofs.word_end.Given as goal
 
 abbrev pub invariant-loop-i : goal.invariant-loop-i
