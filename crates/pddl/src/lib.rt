@@ -100,8 +100,8 @@ fn build(
     table: &mut [u64],
 ) -> u64
     requires members_bound { (members ≤ 8) × (actions ≤ 256) × (c.facts ≤ most_facts) }
-    requires row_width_in_bounds { (row_width * 8 ≤ length goals.now) × (row_width * 256 ≤ length acts.now)
-        × (most_words ≤ length table.old) }
+    requires row_width_in_bounds { (row_width * 8 ≤ length goals.now)
+        × (row_width * 256 ≤ length acts.now) × (most_words ≤ length table.old) }
     ensures { BuiltOf c members actions goals.now acts.now
         table.new result }
 {

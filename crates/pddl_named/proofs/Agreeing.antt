@@ -5,7 +5,7 @@ use mathlib.Core.List.{List, ◌++◌, append-nil}
 use Prim.Native.Nat.{ℕ, ◌≤◌}
 use lib.Dec.{eqb}
 use Rattle.semantics.specs.Base.{all_of}
-use Rattle.semantics.specs.Pddl.{is_in, same_set, same_names, none_twice, known, same, well_named}
+use Rattle.semantics.specs.Pddl.{is_in, same_set, same_names, none_twice, same, well_named}
 use Rattle.mask.specs.Number.{number}
 use Rattle.pddl_theory.specs.Inner.Limits.{most_facts}
 use Rattle.pddl_theory.specs.Inner.Place.{span}

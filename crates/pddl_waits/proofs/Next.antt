@@ -11,7 +11,7 @@ use lib.Dec.{eqb, ltb, leb}
 use borrow.Author.Tests.{ltb-true, ltb-false}
 use mir.Syntax.{w64}
 use mir.Val.{Fits}
-use Rattle.semantics.specs.Text.{cr, lf, records, is_text, text_words}
+use Rattle.semantics.specs.Text.{cr, lf, is_text, text_words}
 use Rattle.text.proofs.Lists.{cond_ind}
 use Rattle.text.proofs.Stands.{Stands, After, AtEnd, Whole, stands-first, stands-next, stands-last, reach}
 use Rattle.text.specs.Inner.Byte.{ByteMeans}

@@ -1,6 +1,5 @@
 -- `pddl::named_law` meets its contract.
 use mathlib.Core.Path.{refl}
-use native.Mathlib.Omega.{arith}
 use borrow.Author.Rules.{rules}
 use Rattle.pddl.proofs.Stages.{naming, Within, within-limits, law-misnamed, law-beyond, law-built}
 use Rattle.pddl.proofs.named_law.Goals as goal
@@ -24,11 +23,15 @@ build-refusal-requires c =
 
 pub overflow_add-result : goal.overflow_add-result
 overflow_add-result c =
-    (within-limits c.count-facts.result c.args.members c.names_hold-own.result.count c.if-facts-members.true).members-fit
+    let l : Within c.count-facts.result c.args.members c.names_hold-own.result.count =
+    within-limits c.count-facts.result c.args.members c.names_hold-own.result.count c.if-facts-members.true in
+    l.members-fit
 
 pub overflow_add-result-then-facts-members : goal.overflow_add-result-then-facts-members
 overflow_add-result-then-facts-members c =
-    (within-limits c.count-facts.result c.args.members c.names_hold-own.result.count c.if-facts-members.true).records-fit
+    let l : Within c.count-facts.result c.args.members c.names_hold-own.result.count =
+    within-limits c.count-facts.result c.args.members c.names_hold-own.result.count c.if-facts-members.true in
+    l.records-fit
 
 pub returns-then-facts-members : goal.returns-then-facts-members
 returns-then-facts-members c =

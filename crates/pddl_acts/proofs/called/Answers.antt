@@ -1,14 +1,8 @@
 -- `pddl_acts::called` meets its contract.
 use borrow.Author.Rules.{rules}
 use native.Mathlib.Omega.{arith}
-use Prim.Native.Nat.{◌-◌}
-use lib.ListN.{length}
 use Rattle.pddl_section.proofs.Lists.{action-onward}
-use Rattle.semantics.specs.Pddl.{same}
-use Rattle.semantics.specs.Base.{any_of}
-use Rattle.pddl_theory.specs.Inner.Place.{span}
-use Rattle.pddl_acts.specs.Inner.Names.{called_from}
-use Rattle.pddl_theory.proofs.Turns.{Asked, asked-begin}
+use Rattle.pddl_theory.proofs.Turns.{asked-begin}
 use Rattle.pddl_acts.proofs.Named.{called-found, called_on, called-end}
 use Rattle.pddl_acts.proofs.called.Goals as goal
 

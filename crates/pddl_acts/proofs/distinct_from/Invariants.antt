@@ -1,12 +1,8 @@
-use borrow.Author.Rules.{rules}
-use native.Mathlib.Omega.{arith}
 use Prim.Native.Nat.{◌-◌}
 use lib.ListN.{length}
-use Rattle.pddl_section.proofs.Lists.{action-onward}
 use Rattle.semantics.specs.Pddl.{none_twice}
 use Rattle.pddl_acts.specs.Inner.Names.{called_from}
-use Rattle.pddl_theory.proofs.Turns.{Asked, asked-begin}
-use Rattle.pddl_acts.proofs.Named.{distinct-not, distinct-on, distinct-end}
+use Rattle.pddl_theory.proofs.Turns.{Asked}
 use Rattle.pddl_acts.proofs.distinct_from.Given as goal
 
 abbrev pub invariant-loop-n : goal.invariant-loop-n

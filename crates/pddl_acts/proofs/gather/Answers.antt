@@ -1,10 +1,8 @@
 -- `pddl_acts::gather` meets its contract.
 use borrow.Author.Rules.{rules}
 use native.Mathlib.Omega.{arith}
-use Prim.Native.Nat.{◌-◌}
-use lib.ListN.{length}
 use Rattle.pddl_section.proofs.Lists.{action-onward}
-use Rattle.pddl_acts.proofs.Tallying.{Tallying, tallying_begin, tallying_below, tallying_on, tallied}
+use Rattle.pddl_acts.proofs.Tallying.{tallying_begin, tallying_below, tallying_on, tallied}
 use Rattle.pddl_acts.proofs.gather.Goals as goal
 
 pub loop-n-init : goal.loop-n-init

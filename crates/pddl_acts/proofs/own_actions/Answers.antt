@@ -5,7 +5,13 @@ use Rattle.pddl_acts.proofs.Tallying.{an_own}
 use Rattle.pddl_acts.proofs.own_actions.Goals as goal
 
 pub gather-t-requires : goal.gather-t-requires
-gather-t-requires c = record { ready = c.requires.ready; row_width_in_bounds = c.requires.row_width_in_bounds; in_bounds = omega arith; start_in_bounds = c.requires.start_in_bounds }
+gather-t-requires c =
+    record {
+      ready = c.requires.ready;
+      row_width_in_bounds = c.requires.row_width_in_bounds;
+      in_bounds = omega arith;
+      start_in_bounds = c.requires.start_in_bounds;
+    }
 
 pub returns : goal.returns
 returns c = search (rules, an_own)

@@ -1,8 +1,4 @@
-use borrow.Author.Rules.{rules}
-use Prim.Native.Nat.{◌+◌, ◌-◌, ◌*◌, ◌<◌}
-use lib.ListN.{length}
-use native.Mathlib.Omega.{arith}
-use Rattle.pddl_members.proofs.Keeping.{found}
+use Prim.Native.Nat.{◌-◌}
 use Rattle.pddl_members.proofs.member_in.Given as goal
 
 abbrev pub invariant-loop-j : goal.invariant-loop-j

@@ -2,10 +2,8 @@
 use mathlib.Core.Path.{refl}
 use borrow.Author.Rules.{rules}
 use native.Mathlib.Omega.{arith}
-use Prim.Native.Nat.{◌-◌}
-use lib.ListN.{length}
 use Rattle.pddl_section.proofs.Lists.{member-onward}
-use Rattle.pddl_named.proofs.Passing.{Passing, passing_begin, passing_owner, passing_room, passing_count}
+use Rattle.pddl_named.proofs.Passing.{passing_begin, passing_owner, passing_room, passing_count}
 use Rattle.pddl_named.proofs.Passing.{passing_on, passing_not, passing_end}
 use Rattle.pddl_named.proofs.all_named.Goals as goal
 

@@ -1,15 +1,11 @@
-use mathlib.Core.Path.{refl}
-use borrow.Author.Rules.{rules}
-use native.Mathlib.Omega.{arith}
 use Prim.Native.Nat.{◌-◌}
 use lib.ListN.{length}
-use Rattle.pddl_section.proofs.Lists.{member-onward}
-use Rattle.pddl_named.proofs.Passing.{Passing, passing_begin, passing_owner, passing_room, passing_count}
-use Rattle.pddl_named.proofs.Passing.{passing_on, passing_not, passing_end}
+use Rattle.pddl_named.proofs.Passing.{Passing}
 use Rattle.pddl_named.proofs.all_named.Given as goal
 
 abbrev pub invariant-loop-n : goal.invariant-loop-n
-invariant-loop-n l = Passing l.text l.spans l.c l.waits l.initial.table l.initial.goals l.table l.goals l.owner l.count l.i
+invariant-loop-n l =
+    Passing l.text l.spans l.c l.waits l.initial.table l.initial.goals l.table l.goals l.owner l.count l.i
 
 abbrev pub decreases-loop-n : goal.decreases-loop-n
 decreases-loop-n l = length l.text - l.i

@@ -1,10 +1,8 @@
 -- `pddl_named::facts_from` meets its contract.
 use borrow.Author.Rules.{rules}
 use native.Mathlib.Omega.{arith}
-use Prim.Native.Nat.{◌-◌}
-use lib.ListN.{length}
 use Rattle.pddl_form.proofs.Lists.{atom-onward}
-use Rattle.pddl_named.proofs.Gathering.{Gathering, gathering_begin, gathering_on, gathered}
+use Rattle.pddl_named.proofs.Gathering.{gathering_begin, gathering_on, gathered}
 use Rattle.pddl_named.proofs.facts_from.Goals as goal
 
 pub loop-n-init : goal.loop-n-init

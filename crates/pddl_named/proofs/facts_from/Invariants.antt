@@ -1,9 +1,6 @@
-use borrow.Author.Rules.{rules}
-use native.Mathlib.Omega.{arith}
 use Prim.Native.Nat.{◌-◌}
 use lib.ListN.{length}
-use Rattle.pddl_form.proofs.Lists.{atom-onward}
-use Rattle.pddl_named.proofs.Gathering.{Gathering, gathering_begin, gathering_on, gathered}
+use Rattle.pddl_named.proofs.Gathering.{Gathering}
 use Rattle.pddl_named.proofs.facts_from.Given as goal
 
 abbrev pub invariant-loop-n : goal.invariant-loop-n

@@ -1,5 +1,4 @@
 -- `pddl_named::well_named` meets its contract.
-use borrow.Author.Rules.{rules}
 use mathlib.Core.Path.{refl}
 use Rattle.pddl_named.proofs.Agreeing.{well-named}
 use Rattle.pddl_named.proofs.well_named.Goals as goal

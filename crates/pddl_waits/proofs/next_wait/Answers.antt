@@ -1,7 +1,5 @@
 -- `pddl_waits::next_wait` meets its contract: the invariant is that of Next.antt. Assumes nothing.
-use borrow.Author.Rules.{rules}
-use Prim.Native.Nat.{◌-◌}
-use Rattle.pddl_waits.proofs.Next.{Reads, begin, in_reach, end-reach, onward, found, word_on, out, ended}
+use Rattle.pddl_waits.proofs.Next.{begin, in_reach, end-reach, onward, found, word_on, out, ended}
 use Rattle.pddl_waits.proofs.Next.{last_found, no_end}
 use Rattle.pddl_waits.proofs.next_wait.Goals as goal
 

@@ -1,7 +1,5 @@
-use borrow.Author.Rules.{rules}
 use Prim.Native.Nat.{◌-◌}
-use Rattle.pddl_waits.proofs.Next.{Reads, begin, in_reach, end-reach, onward, found, word_on, out, ended}
-use Rattle.pddl_waits.proofs.Next.{last_found, no_end}
+use Rattle.pddl_waits.proofs.Next.{Reads}
 use Rattle.pddl_waits.proofs.next_wait.Given as goal
 
 abbrev pub invariant-loop-i : goal.invariant-loop-i

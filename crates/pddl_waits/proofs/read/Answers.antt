@@ -1,8 +1,5 @@
 -- `pddl_waits::read` meets its contract. Assumes nothing.
-use Prim.Native.Nat.{◌-◌}
-use lib.ListN.{length}
-use borrow.Author.Rules.{rules}
-use Rattle.pddl_waits.proofs.Pass.{Before, begin, less, onward, end, out}
+use Rattle.pddl_waits.proofs.Pass.{begin, less, onward, end, out}
 use Rattle.pddl_waits.proofs.read.Goals as goal
 
 pub loop-a-init : goal.loop-a-init

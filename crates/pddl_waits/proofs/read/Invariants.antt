@@ -1,7 +1,6 @@
 use Prim.Native.Nat.{◌-◌}
 use lib.ListN.{length}
-use borrow.Author.Rules.{rules}
-use Rattle.pddl_waits.proofs.Pass.{Before, begin, less, onward, end, out}
+use Rattle.pddl_waits.proofs.Pass.{Before}
 use Rattle.pddl_waits.proofs.read.Given as goal
 
 abbrev pub invariant-loop-a : goal.invariant-loop-a

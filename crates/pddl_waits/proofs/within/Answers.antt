@@ -1,5 +1,4 @@
 -- `pddl_waits::within` meets its contract. Assumes nothing.
-use borrow.Author.Rules.{rules}
 use Rattle.pddl_waits.proofs.Waits.{both_below}
 use Rattle.pddl_waits.proofs.within.Goals as goal
 

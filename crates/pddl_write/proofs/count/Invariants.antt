@@ -1,10 +1,7 @@
-use Prim.Native.Nat.{◌-◌, ◌<◌}
-use native.Mathlib.Omega.{arith}
-use borrow.Author.Rules.{rules}
-use Rattle.semantics.specs.PddlWrite.{own}
+use Prim.Native.Nat.{◌-◌}
 use Rattle.semantics.specs.Task.{actions}
 use Rattle.pddl_write.specs.Inner.Put.{is_own}
-use Rattle.pddl_write.proofs.Laws.{Counted, counted-begin, counted-onward, counted-end}
+use Rattle.pddl_write.proofs.Laws.{Counted}
 use Rattle.pddl_write.proofs.count.Given as goal
 
 abbrev pub invariant-loop-a : goal.invariant-loop-a

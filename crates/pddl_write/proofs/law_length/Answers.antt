@@ -1,5 +1,4 @@
 -- `pddl_write::law_length` meets its contract. Assumes nothing.
-use borrow.Author.Rules.{rules}
 use Rattle.pddl_write.proofs.Laws.{put-length}
 use Rattle.pddl_write.proofs.Bound.{law-most}
 use Rattle.pddl_write.proofs.law_length.Goals as goal

@@ -1,9 +1,8 @@
 -- `pddl_write::put` meets its contract. Assumes nothing.
-use Prim.Native.Nat.{◌-◌, ◌≤◌}
+use Prim.Native.Nat.{◌≤◌}
 use native.Mathlib.Omega.{arith}
-use lib.ListN.{length, drop, drop_of_length-le}
-use borrow.Author.Rules.{rules}
-use Rattle.pddl_write.proofs.Laws.{Stage, stage-begin, stage-put, stage-end, from_at}
+use lib.ListN.{length, drop_of_length-le}
+use Rattle.pddl_write.proofs.Laws.{stage-begin, stage-put, stage-end, from_at}
 use Rattle.pddl_write.proofs.put.Goals as goal
 
 pub loop-i-init : goal.loop-i-init

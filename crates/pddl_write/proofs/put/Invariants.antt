@@ -1,8 +1,6 @@
-use Prim.Native.Nat.{◌-◌, ◌≤◌}
-use native.Mathlib.Omega.{arith}
-use lib.ListN.{length, drop, drop_of_length-le}
-use borrow.Author.Rules.{rules}
-use Rattle.pddl_write.proofs.Laws.{Stage, stage-begin, stage-put, stage-end, from_at}
+use Prim.Native.Nat.{◌-◌}
+use lib.ListN.{length, drop}
+use Rattle.pddl_write.proofs.Laws.{Stage}
 use Rattle.pddl_write.proofs.put.Given as goal
 
 abbrev pub invariant-loop-i : goal.invariant-loop-i

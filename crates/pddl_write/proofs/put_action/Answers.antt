@@ -1,5 +1,4 @@
 -- `pddl_write::put_action` meets its contract. Assumes nothing.
-use borrow.Author.Rules.{rules}
 use Rattle.semantics.specs.Base.{numbers_from}
 use Rattle.semantics.specs.PddlWrite.{spelt, action_text}
 use Rattle.pddl_write.proofs.Laws.{put_then, put-mask}

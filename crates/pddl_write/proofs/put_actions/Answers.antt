@@ -1,22 +1,30 @@
 -- `pddl_write::put_actions` meets its contract. Assumes nothing.
-use Prim.Native.Nat.{◌-◌, ◌≤◌, ◌<◌}
+use Prim.Native.Nat.{◌≤◌, ◌<◌}
 use native.Mathlib.Omega.{arith}
-use borrow.Author.Rules.{rules}
 use Rattle.theory.proofs.Accepted.{accepted}
 use Rattle.semantics.specs.Task.{actions}
-use Rattle.semantics.specs.PddlWrite.{own, action_text}
-use Rattle.pddl_write.specs.Inner.Put.{is_own}
-use Rattle.pddl_write.proofs.Laws.{Turns, turns_begin, turns_onward, turns_end}
+use Rattle.semantics.specs.PddlWrite.{own}
+use Rattle.pddl_write.proofs.Laws.{turns_begin, turns_onward, turns_end}
 use Rattle.pddl_write.proofs.put_actions.Goals as goal
 
 pub loop-a-init : goal.loop-a-init
 loop-a-init c = turns_begin
 
 pub put_owned-next-requires : goal.put_owned-next-requires
-put_owned-next-requires c = let l : c.loop-a.a < actions c.args.t.now = omega (arith, c.actions-m.ensures) in record { t_value = c.requires.t_value; a_bound = l }
+put_owned-next-requires c =
+    let l : c.loop-a.a < actions c.args.t.now = omega (arith, c.actions-m.ensures) in
+    record {
+      t_value = c.requires.t_value;
+      a_bound = l;
+    }
 
 pub owned-number-requires : goal.owned-number-requires
-owned-number-requires c = let l : c.loop-a.a < actions c.args.t.now = omega (arith, c.actions-m.ensures) in record { t_value = c.requires.t_value; a_bound = l }
+owned-number-requires c =
+    let l : c.loop-a.a < actions c.args.t.now = omega (arith, c.actions-m.ensures) in
+    record {
+      t_value = c.requires.t_value;
+      a_bound = l;
+    }
 
 pub overflow_add-number : goal.overflow_add-number
 overflow_add-number c =

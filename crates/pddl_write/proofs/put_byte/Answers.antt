@@ -1,5 +1,4 @@
 -- `pddl_write::put_byte` meets its contract. Assumes nothing.
-use borrow.Author.Rules.{rules}
 use Rattle.pddl_write.proofs.Laws.{byte_inside, byte-outside}
 use Rattle.pddl_write.proofs.put_byte.Goals as goal
 

@@ -1,5 +1,4 @@
 -- `pddl_write::put_effects` meets its contract. Assumes nothing.
-use borrow.Author.Rules.{rules}
 use Rattle.semantics.specs.Base.{numbers_from}
 use Rattle.semantics.specs.PddlWrite.{spelt, effects_text}
 use Rattle.pddl_write.proofs.Laws.{put_then, put-mask}

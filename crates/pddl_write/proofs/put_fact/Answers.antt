@@ -1,5 +1,4 @@
 -- `pddl_write::put_fact` meets its contract. Assumes nothing.
-use borrow.Author.Rules.{rules}
 use Rattle.pddl_write.proofs.Laws.{skip, choose}
 use Rattle.pddl_write.proofs.put_fact.Goals as goal
 

@@ -1,11 +1,9 @@
 use Prim.Native.Nat.{◌-◌}
-use native.Mathlib.Omega.{arith}
-use borrow.Author.Rules.{rules}
 use Rattle.semantics.specs.Mask.{has, standing}
 use Rattle.semantics.specs.PddlWrite.{each}
 use Rattle.mask.specs.Number.{number}
 use Rattle.pddl_write.specs.Inner.Put.{between}
-use Rattle.pddl_write.proofs.Laws.{Stage, stage-begin, stage-put, stage-end, left, each_at, each_none}
+use Rattle.pddl_write.proofs.Laws.{Stage, left}
 use Rattle.pddl_write.proofs.put_facts.Given as goal
 
 abbrev pub invariant-loop-f : goal.invariant-loop-f

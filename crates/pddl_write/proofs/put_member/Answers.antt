@@ -1,5 +1,4 @@
 -- `pddl_write::put_member` meets its contract. Assumes nothing.
-use borrow.Author.Rules.{rules}
 use Rattle.semantics.specs.PddlWrite.{member_text}
 use Rattle.pddl_write.proofs.Laws.{put_then}
 use Rattle.pddl_write.proofs.put_member.Goals as goal

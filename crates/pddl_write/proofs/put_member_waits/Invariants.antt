@@ -1,15 +1,13 @@
-use Prim.Native.Nat.{◌-◌, ◌≤◌, ◌<◌}
-use native.Mathlib.Omega.{arith}
-use borrow.Author.Rules.{rules}
-use Rattle.theory.proofs.Accepted.{accepted}
+use Prim.Native.Nat.{◌-◌}
 use Rattle.semantics.specs.Task.{actions}
-use Rattle.semantics.specs.PddlWrite.{own, action_waits}
+use Rattle.semantics.specs.PddlWrite.{action_waits}
 use Rattle.pddl_write.specs.Inner.Put.{is_own}
-use Rattle.pddl_write.proofs.Laws.{Turns, turns_begin, turns_onward, turns_end}
+use Rattle.pddl_write.proofs.Laws.{Turns}
 use Rattle.pddl_write.proofs.put_member_waits.Given as goal
 
 abbrev pub invariant-loop-a : goal.invariant-loop-a
-invariant-loop-a l = Turns (action_waits l.t) (is_own l.t l.i) (actions l.t) l.k l.initial.out l.at l.out l.next l.number l.a
+invariant-loop-a l =
+    Turns (action_waits l.t) (is_own l.t l.i) (actions l.t) l.k l.initial.out l.at l.out l.next l.number l.a
 
 abbrev pub decreases-loop-a : goal.decreases-loop-a
 decreases-loop-a l = l.m - l.a

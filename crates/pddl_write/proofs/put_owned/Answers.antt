@@ -1,5 +1,4 @@
 -- `pddl_write::put_owned` meets its contract. Assumes nothing.
-use borrow.Author.Rules.{rules}
 use Rattle.pddl_write.proofs.Laws.{skip-other, choose-own}
 use Rattle.pddl_write.proofs.put_owned.Goals as goal
 

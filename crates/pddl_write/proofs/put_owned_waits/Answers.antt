@@ -1,5 +1,4 @@
 -- `pddl_write::put_owned_waits` meets its contract. Assumes nothing.
-use borrow.Author.Rules.{rules}
 use Rattle.semantics.specs.PddlWrite.{action_waits}
 use Rattle.pddl_write.proofs.Laws.{skip-other, choose-own, put-mask}
 use Rattle.pddl_write.proofs.put_owned_waits.Goals as goal

@@ -1,5 +1,4 @@
 -- `pddl_write::put_predicates` meets its contract. Assumes nothing.
-use borrow.Author.Rules.{rules}
 use Rattle.pddl_write.proofs.Laws.{put-all}
 use Rattle.pddl_write.proofs.put_predicates.Goals as goal
 

@@ -1,5 +1,4 @@
 -- `pddl_write::put_record` meets its contract. Assumes nothing.
-use borrow.Author.Rules.{rules}
 use Rattle.semantics.specs.PddlWrite.{wait_text}
 use Rattle.pddl_write.proofs.Laws.{put_then, skip, choose}
 use Rattle.pddl_write.proofs.put_record.Goals as goal

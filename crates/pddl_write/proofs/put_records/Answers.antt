@@ -1,11 +1,9 @@
 -- `pddl_write::put_records` meets its contract. Assumes nothing.
-use Prim.Native.Nat.{◌-◌}
 use native.Mathlib.Omega.{arith}
-use borrow.Author.Rules.{rules}
 use Rattle.semantics.specs.Mask.{has, standing}
-use Rattle.semantics.specs.PddlWrite.{each, wait_text}
+use Rattle.semantics.specs.PddlWrite.{wait_text}
 use Rattle.mask.specs.Number.{number}
-use Rattle.pddl_write.proofs.Laws.{Stage, stage-begin, stage-put, stage-end, left, each_at, each_none}
+use Rattle.pddl_write.proofs.Laws.{stage-begin, stage-put, stage-end, each_at, each_none}
 use Rattle.pddl_write.proofs.put_records.Goals as goal
 
 pub loop-f-init : goal.loop-f-init

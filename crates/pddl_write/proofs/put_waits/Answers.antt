@@ -1,12 +1,10 @@
 -- `pddl_write::put_waits` meets its contract. Assumes nothing.
-use Prim.Native.Nat.{◌-◌, ◌≤◌, ◌<◌}
+use Prim.Native.Nat.{◌≤◌, ◌<◌}
 use native.Mathlib.Omega.{arith}
-use borrow.Author.Rules.{rules}
 use Rattle.theory.proofs.Accepted.{accepted}
 use Rattle.semantics.specs.Task.{members}
 use Rattle.semantics.specs.PddlWrite.{order, waits_text}
-use Rattle.pddl_write.proofs.Laws.{Across, across_begin, across_onward, across_end, own-few, waits-spread}
-use Rattle.pddl_write.proofs.Laws.{waits_on}
+use Rattle.pddl_write.proofs.Laws.{across_begin, across_onward, across_end, own-few, waits-spread}
 use Rattle.pddl_write.proofs.put_waits.Goals as goal
 
 pub loop-i-init : goal.loop-i-init

@@ -1,10 +1,5 @@
-use Prim.Native.Nat.{◌-◌, ◌≤◌, ◌<◌}
-use native.Mathlib.Omega.{arith}
-use borrow.Author.Rules.{rules}
-use Rattle.theory.proofs.Accepted.{accepted}
-use Rattle.semantics.specs.Task.{members}
-use Rattle.semantics.specs.PddlWrite.{order, waits_text}
-use Rattle.pddl_write.proofs.Laws.{Across, across_begin, across_onward, across_end, own-few, waits-spread}
+use Prim.Native.Nat.{◌-◌}
+use Rattle.pddl_write.proofs.Laws.{Across}
 use Rattle.pddl_write.proofs.Laws.{waits_on}
 use Rattle.pddl_write.proofs.put_waits.Given as goal
 

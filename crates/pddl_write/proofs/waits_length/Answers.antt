@@ -1,5 +1,4 @@
 -- `pddl_write::waits_length` meets its contract. Assumes nothing.
-use borrow.Author.Rules.{rules}
 use Rattle.pddl_write.proofs.Laws.{put-length}
 use Rattle.pddl_write.proofs.Bound.{waits-most}
 use Rattle.pddl_write.proofs.waits_length.Goals as goal
