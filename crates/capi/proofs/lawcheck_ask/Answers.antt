@@ -1,6 +1,5 @@
 -- `capi::lawcheck_ask` meets its contract: one law for each way out. Assumes nothing.
 use Rattle.capi.proofs.Calls.{run-there, ask_run, ask_short, ask_told}
-use borrow.Author.Rules.{rules}
 use Rattle.capi.proofs.lawcheck_ask.Goals as goal
 
 pub returns-then-no_run : goal.returns-then-no_run

@@ -1,5 +1,4 @@
 -- `capi::lawcheck_joint_replay` meets its contract. Assumes nothing.
-use borrow.Author.Rules.{rules}
 use Rattle.capi.proofs.Calls.{joint_short, joint_refused, joint_given}
 use Rattle.capi.proofs.lawcheck_joint_replay.Goals as goal
 

@@ -16,8 +16,8 @@ returns-in-Refused c =
     let m = write_pddl a.t.now a.text.now a.waits.now in
     let w = c.write-w in
     let k =
-        write_refused m a.text.now a.waits.now a.out.now c.if-out-lt2.false w.result w.new.text w.new.waits w.ensures
-        c.in-Refused.k c.in-Refused.is in
+    write_refused m a.text.now a.waits.now a.out.now c.if-out-lt2.false w.result w.new.text w.new.waits w.ensures
+    c.in-Refused.k c.in-Refused.is in
     record { out_after = k.0; text_after = k.1.0; waits_after = k.1.1 }
 
 pub returns-in-Gives : goal.returns-in-Gives
@@ -27,6 +27,6 @@ returns-in-Gives c =
     let w = c.write-w in
     let g = c.in-Gives in
     let k =
-        write_given m a.text.now a.waits.now a.out.now c.if-out-lt2.false w.result w.new.text w.new.waits w.ensures
-        g.a g.b c.put.new.slice g.is c.put.ensures in
+    write_given m a.text.now a.waits.now a.out.now c.if-out-lt2.false w.result w.new.text w.new.waits w.ensures
+    g.a g.b c.put.new.slice g.is c.put.ensures in
     record { out_after = k.0; text_after = k.1.0; waits_after = k.1.1 }

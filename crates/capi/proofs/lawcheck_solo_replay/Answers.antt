@@ -1,6 +1,5 @@
 -- `capi::lawcheck_solo_replay` meets its contract. Assumes nothing.
 use Rattle.capi.proofs.Calls.{solo-short, solo-refused, solo-given}
-use borrow.Author.Rules.{rules}
 use Rattle.capi.proofs.lawcheck_solo_replay.Goals as goal
 
 pub returns-then-out-lt2 : goal.returns-then-out-lt2

@@ -13,8 +13,8 @@ returns-in-Refused c =
     let a = c.args in
     let s = c.solo_search-s in
     let k =
-        search_refused a.t.now a.table.now a.marks.now a.out.now a.member c.if-out-lt3.false s.result s.new.table
-        s.new.marks s.ensures c.in-Refused.k c.in-Refused.is in
+    search_refused a.t.now a.table.now a.marks.now a.out.now a.member c.if-out-lt3.false s.result s.new.table
+    s.new.marks s.ensures c.in-Refused.k c.in-Refused.is in
     record { out_after = k.0; table_after = k.1.0; marks_after = k.1.1 }
 
 pub returns-in-Gives : goal.returns-in-Gives
@@ -23,6 +23,6 @@ returns-in-Gives c =
     let s = c.solo_search-s in
     let g = c.in-Gives in
     let k =
-        search_given a.t.now a.table.now a.marks.now a.out.now a.member c.if-out-lt3.false s.result s.new.table
-        s.new.marks s.ensures g.count g.live g.marked c.put.new.slice g.is c.put.ensures in
+    search_given a.t.now a.table.now a.marks.now a.out.now a.member c.if-out-lt3.false s.result s.new.table
+    s.new.marks s.ensures g.count g.live g.marked c.put.new.slice g.is c.put.ensures in
     record { out_after = k.0; table_after = k.1.0; marks_after = k.1.1 }

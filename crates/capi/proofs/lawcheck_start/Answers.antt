@@ -1,5 +1,4 @@
 -- `capi::lawcheck_start` meets its contract: one law for each way out. Assumes nothing.
-use borrow.Author.Rules.{rules}
 use Rattle.capi.proofs.Plays.{start-short, start-refused, start-given}
 use Rattle.capi.proofs.lawcheck_start.Goals as goal
 

@@ -1,5 +1,4 @@
 -- `capi::lawcheck_step` meets its contract. Assumes nothing.
-use borrow.Author.Rules.{rules}
 use Rattle.capi.proofs.Calls.{step-shared, step-short, step-refused, step_given}
 use Rattle.capi.proofs.lawcheck_step.Goals as goal
 

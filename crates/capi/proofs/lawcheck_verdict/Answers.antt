@@ -1,6 +1,5 @@
 -- `capi::lawcheck_verdict` meets its contract. Assumes nothing.
 use Rattle.capi.proofs.Calls.{verdict-short, verdict-told}
-use borrow.Author.Rules.{rules}
 use Rattle.capi.proofs.lawcheck_verdict.Goals as goal
 
 pub returns-then-out-lt5 : goal.returns-then-out-lt5
