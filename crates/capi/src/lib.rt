@@ -4,6 +4,7 @@
 // anything else.
 
 #![tactic(auto)]
+
 ghost use Rattle.std.specs.Prelude.{◌≡◌, not, ◌||◌, length, eqb, ltb};
 ghost use Rattle.semantics.specs.Verdict.{lent_of};
 ghost use Rattle.semantics.specs.Task.{check};

@@ -1,6 +1,7 @@
 // The verdict program: reads the text of a task on standard input and prints its verdict file.
 
 #![tactic(auto)]
+
 ghost use Rattle.std.specs.Prelude.{◌≤◌, ◌≡◌, length};
 ghost use Rattle.std.specs.Io.{ReadsAtMost, WritesAtMost};
 

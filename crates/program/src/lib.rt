@@ -1,6 +1,7 @@
 // The verdict program on slices: the text of a task in, the verdict file out.
 
 #![tactic(auto)]
+
 ghost use Rattle.std.specs.Prelude.{◌≡◌, ◌≤◌, length, replicate};
 ghost use Rattle.semantics.specs.Verdict.{lent_of};
 ghost use Rattle.semantics.specs.Task.{check};

@@ -1,6 +1,7 @@
 // Solo replay: a member's plan on its local copy.
 
 #![tactic(auto)]
+
 ghost use Rattle.std.specs.Prelude.{◌≡◌, ◌<◌};
 ghost use Rattle.semantics.specs.Base.{first_refusal};
 ghost use Rattle.semantics.specs.Task.{check, members, actions, initial};

@@ -2,16 +2,12 @@
 -- Assumes nothing.
 use mathlib.Core.Path.{◌≡◌, refl}
 use mathlib.Core.Bool.{true, false}
-use mathlib.Core.List.{[], ◌∷◌}
 use Prim.Native.Nat.{ℕ, ◌+◌, ◌-◌, ◌*◌, ◌/◌, ◌^◌, ◌≤◌, ◌<◌}
 use native.Mathlib.Omega.{arith}
-use denote.Enum.Declared.{tag_of}
-use types.Run.{OneOf, miss}
 use mir.Syntax.{w64}
 use mir.Val.{Fits}
 use borrow.Author.Tests.{lt-ltb, le-ltb, le-leb, lt-leb, eq-eqb, ne_eqb}
 use Rattle.semantics.specs.Text.{comma, cr, lf, is_digit}
-use Rattle.text.specs.contracts.Byte.{the_type}
 use Rattle.text.specs.Inner.Byte.{ByteMeans}
 use Rattle.text.specs.Inner.Place.{at, InReach, first, ended, step_of, last_of}
 use Rattle.text.specs.declared.Byte.{Byte}

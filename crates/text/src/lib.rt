@@ -2,6 +2,7 @@
 // `width`, and the most records; the text reader is its instance for a task's rows.
 
 #![tactic(auto)]
+
 ghost use Rattle.std.specs.Prelude.{◌≡◌, ◌-◌, ◌*◌, ◌^◌, ◌≤◌, ◌<◌, length};
 ghost use Rattle.text.specs.Inner.Byte.{ByteMeans};
 ghost use Rattle.text.specs.Inner.Place.{at, InReach, step_of, last_of};

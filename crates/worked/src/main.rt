@@ -3,6 +3,7 @@
 // words and 3 and 4 in the high ones.
 
 #![tactic(auto)]
+
 ghost use Rattle.std.specs.Prelude.{◌≤◌, length};
 
 use text::Scan;

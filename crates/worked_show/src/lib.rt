@@ -1,6 +1,7 @@
 // What the operations answer on a law, one line an answer, on standard output.
 
 #![tactic(auto)]
+
 use fault::{Failing, Fault, Verdict, VerdictAnswer};
 use mask::{Mask, Shared};
 use run_outcome::{Outcome, ReplayAnswer};

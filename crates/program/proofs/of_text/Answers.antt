@@ -7,7 +7,7 @@ use lib.ListN.{length, replicate, length-replicate}
 use lib.Seq.{length-take-le}
 use Rattle.semantics.specs.Task.{row_width, check}
 use Rattle.text.specs.Post.{most_words}
-use Rattle.program.proofs.Laws.{Words, words-of, prints_task, prints_refusal}
+use Rattle.program.proofs.Laws.{words-of, prints_task, prints_refusal}
 use Rattle.program.proofs.of_text.Goals as goal
 
 -- the slice's length

@@ -1,8 +1,7 @@
 -- `report::put_number` meets its contract. Assumes nothing.
-use borrow.Author.Rules.{rules}
 use mathlib.Core.Path.{sym, subst}
 use mathlib.Core.List.{List, [], ◌∷◌}
-use Prim.Native.Nat.{ℕ, ◌+◌, ◌/◌, ◌%◌, ◌<◌}
+use Prim.Native.Nat.{ℕ, ◌+◌, ◌/◌, ◌%◌}
 use native.Mathlib.Omega.{arith}
 use Rattle.theory.proofs.Laid.{Laid, laid-append}
 use Rattle.semantics.specs.Text.{digits}
@@ -22,10 +21,10 @@ returns-then-v-lt10 t c =
 
 pub put_number-next-requires : goal.put_number-next-requires
 put_number-next-requires t c = (
-    omega arith,
-    room-first (digits (c.args.v / 10)) ((48 + c.args.v % 10) ∷ [])
-        (subst (λ (l : List ℕ). Room c.args.out.now c.args.at l) (digits_more c.args.v (omega arith)) c.requires),
-  )
+  omega arith,
+  room-first (digits (c.args.v / 10)) ((48 + c.args.v % 10) ∷ [])
+      (subst (λ (l : List ℕ). Room c.args.out.now c.args.at l) (digits_more c.args.v (omega arith)) c.requires),
+)
 
 pub put_byte-requires-2 : goal.put_byte-requires-2
 put_byte-requires-2 t c =

@@ -1,7 +1,6 @@
 -- `report::pick_count` meets its contract. Assumes nothing.
 use Rattle.report.proofs.Faults.{count_fits, count-collision}
 use native.Mathlib.Omega.{arith}
-use borrow.Author.Rules.{rules}
 use Rattle.report.proofs.pick_count.Goals as goal
 
 pub overflow_add-result : goal.overflow_add-result

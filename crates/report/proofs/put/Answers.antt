@@ -1,13 +1,11 @@
 -- `report::put` meets its contract. Assumes nothing.
 use mathlib.Core.Path.{refl, sym, subst}
-use mathlib.Core.List.{List, [], ◌∷◌}
-use Prim.Native.Nat.{ℕ, ◌-◌}
+use mathlib.Core.List.{List}
+use Prim.Native.Nat.{ℕ}
 use native.Mathlib.Omega.{arith}
-use lib.ListN.{length}
-use borrow.Author.Rules.{rules}
 use Rattle.theory.proofs.Laid.{Laid}
 use Rattle.report.specs.Inner.Put.{Room}
-use Rattle.report.proofs.Laws.{Stage, stage-begin, stage-room, stage-onward, stage-end, spread-bytes}
+use Rattle.report.proofs.Laws.{stage-begin, stage-room, stage-onward, stage-end, spread-bytes}
 use Rattle.report.proofs.put.Goals as goal
 
 pub loop-i-init : goal.loop-i-init

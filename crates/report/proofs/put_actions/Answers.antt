@@ -1,10 +1,7 @@
 -- `report::put_actions` meets its contract. Assumes nothing.
-use Prim.Native.Nat.{◌-◌}
 use native.Mathlib.Omega.{arith}
-use lib.ListN.{length}
-use borrow.Author.Rules.{rules}
-use Rattle.report.specs.File.{line, lines}
-use Rattle.report.proofs.Laws.{Stage, stage-begin, stage-room, stage-onward, stage-end}
+use Rattle.report.specs.File.{lines}
+use Rattle.report.proofs.Laws.{stage-begin, stage-room, stage-onward, stage-end}
 use Rattle.report.proofs.put_actions.Goals as goal
 
 pub loop-i-init : goal.loop-i-init

@@ -1,6 +1,5 @@
 -- `report::put_body` meets its contract. Assumes nothing.
 use Rattle.report.proofs.Faults.{answer-holds, answer-room, put_refused, put-given}
-use borrow.Author.Rules.{rules}
 use Rattle.report.proofs.put_body.Goals as goal
 
 pub put_verdict-requires : goal.put_verdict-requires

@@ -1,5 +1,4 @@
 -- `report::put_conflict` meets its contract. Assumes nothing.
-use borrow.Author.Rules.{rules}
 use Rattle.semantics.specs.Base.{numbers_from}
 use Rattle.theory.proofs.Laid.{laid-append}
 use Rattle.report.specs.File.{word, lines, plans_lines}

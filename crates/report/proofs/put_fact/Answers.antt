@@ -1,5 +1,4 @@
 -- `report::put_fact` meets its contract: one law for each way out. Assumes nothing.
-use borrow.Author.Rules.{rules}
 use Rattle.semantics.specs.Base.{numbers_from}
 use Rattle.report.specs.File.{word}
 use Rattle.report.proofs.Laws.{fact-room, fact-put, fact-none}

@@ -1,6 +1,5 @@
 -- `report::put_failing` meets its contract. Assumes nothing.
 use Rattle.report.proofs.Faults.{holds-inside, front_long, room-missing, room-conflict, failing-put}
-use borrow.Author.Rules.{rules}
 use Rattle.report.proofs.put_failing.Goals as goal
 
 pub put_missing-next-requires : goal.put_missing-next-requires

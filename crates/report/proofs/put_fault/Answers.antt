@@ -22,7 +22,7 @@ pub returns-in-Collision : goal.returns-in-Collision
 unfolding word numbers_from
 returns-in-Collision c =
     let k =
-        line-collision c.args.f c.args.out.now c.args.at c.put_line.new.out c.put_line.result
+    line-collision c.args.f c.args.out.now c.args.at c.put_line.new.out c.put_line.result
     c.in-Collision.is (search rules) c.put_line.ensures in
     record { laid = k.0; upper_bound = k.1 }
 
@@ -30,7 +30,7 @@ pub returns-in-Deadlock : goal.returns-in-Deadlock
 unfolding word numbers_from
 returns-in-Deadlock c =
     let k =
-        line-deadlock c.args.f c.args.out.now c.args.at c.put_line-in-Deadlock.new.out c.put_line-in-Deadlock.result
+    line-deadlock c.args.f c.args.out.now c.args.at c.put_line-in-Deadlock.new.out c.put_line-in-Deadlock.result
     c.in-Deadlock.is (search rules) c.put_line-in-Deadlock.ensures in
     record { laid = k.0; upper_bound = k.1 }
 
@@ -38,6 +38,6 @@ pub returns-in-Missed : goal.returns-in-Missed
 unfolding word numbers_from
 returns-in-Missed c =
     let k =
-        line-missed c.args.f c.args.out.now c.args.at c.put_line-in-Missed.new.out c.put_line-in-Missed.result
+    line-missed c.args.f c.args.out.now c.args.at c.put_line-in-Missed.new.out c.put_line-in-Missed.result
     c.in-Missed.member c.in-Missed.is (search rules) c.put_line-in-Missed.ensures in
     record { laid = k.0; upper_bound = k.1 }

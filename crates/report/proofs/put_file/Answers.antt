@@ -1,6 +1,5 @@
 -- `report::put_file` meets its contract. Assumes nothing.
 use native.Mathlib.Omega.{arith}
-use borrow.Author.Rules.{rules}
 use Rattle.theory.proofs.Laid.{laid-append}
 use Rattle.fault.specs.Value.{answer_of}
 use Rattle.semantics.specs.Base.{numbers_from}

@@ -1,6 +1,5 @@
 -- `report::put_line` meets its contract. Assumes nothing.
 use native.Mathlib.Omega.{arith}
-use borrow.Author.Rules.{rules}
 use Rattle.theory.proofs.Laid.{laid-append}
 use Rattle.report.proofs.Laws.{line-length}
 use Rattle.report.proofs.put_line.Goals as goal

@@ -1,13 +1,11 @@
 -- `report::put_missing` meets its contract: fact by fact. Assumes nothing.
 use mathlib.Core.Path.{sym}
-use Prim.Native.Nat.{◌-◌}
 use native.Mathlib.Omega.{arith}
-use Rattle.semantics.specs.Base.{up_to}
 use Rattle.theory.proofs.Lists.{up_to_length}
 use Rattle.theory.proofs.Loops.{up_to_at}
 use Rattle.mask.specs.Number.{number}
-use Rattle.report.specs.Inner.Put.{most_facts, missing_line}
-use Rattle.report.proofs.Laws.{Stage, stage-room, stage-onward, missing-begin, missing-end}
+use Rattle.report.specs.Inner.Put.{most_facts}
+use Rattle.report.proofs.Laws.{stage-room, stage-onward, missing-begin, missing-end}
 use Rattle.report.proofs.put_missing.Goals as goal
 
 pub loop-f-init : goal.loop-f-init

@@ -1,12 +1,8 @@
-use mathlib.Core.Path.{sym}
 use Prim.Native.Nat.{◌-◌}
-use native.Mathlib.Omega.{arith}
 use Rattle.semantics.specs.Base.{up_to}
-use Rattle.theory.proofs.Lists.{up_to_length}
-use Rattle.theory.proofs.Loops.{up_to_at}
 use Rattle.mask.specs.Number.{number}
 use Rattle.report.specs.Inner.Put.{most_facts, missing_line}
-use Rattle.report.proofs.Laws.{Stage, stage-room, stage-onward, missing-begin, missing-end}
+use Rattle.report.proofs.Laws.{Stage}
 use Rattle.report.proofs.put_missing.Given as goal
 
 abbrev pub invariant-loop-f : goal.invariant-loop-f

@@ -1,9 +1,7 @@
 use Prim.Native.Nat.{◌-◌}
-use native.Mathlib.Omega.{arith}
 use lib.ListN.{length}
-use borrow.Author.Rules.{rules}
-use Rattle.report.specs.File.{line, lines}
-use Rattle.report.proofs.Laws.{Stage, stage-begin, stage-room, stage-onward, stage-end}
+use Rattle.report.specs.File.{line}
+use Rattle.report.proofs.Laws.{Stage}
 use Rattle.report.proofs.put_picks.Given as goal
 
 abbrev pub invariant-loop-i : goal.invariant-loop-i

@@ -3,7 +3,6 @@ use mathlib.Core.Path.{sym, subst}
 use mathlib.Core.List.{List, ◌++◌}
 use Prim.Native.Nat.{ℕ}
 use native.Mathlib.Omega.{arith}
-use borrow.Author.Rules.{rules}
 use Rattle.semantics.specs.Base.{numbers_from}
 use Rattle.semantics.specs.Run.{plan_of}
 use Rattle.theory.proofs.Laid.{Laid, laid-append}

@@ -1,12 +1,10 @@
 -- `report::put_plans` meets its contract. Assumes nothing.
 use mathlib.Core.Path.{sym}
-use Prim.Native.Nat.{◌-◌}
 use native.Mathlib.Omega.{arith}
-use Rattle.semantics.specs.Base.{up_to}
 use Rattle.theory.proofs.Lists.{up_to_length}
 use Rattle.theory.proofs.Loops.{up_to_at}
-use Rattle.report.specs.File.{plan_lines, plans_lines}
-use Rattle.report.proofs.Laws.{Stage, stage-begin, stage-room, stage-onward, stage-end}
+use Rattle.report.specs.File.{plans_lines}
+use Rattle.report.proofs.Laws.{stage-begin, stage-room, stage-onward, stage-end}
 use Rattle.report.proofs.put_plans.Goals as goal
 
 pub loop-i-init : goal.loop-i-init

@@ -1,11 +1,7 @@
-use mathlib.Core.Path.{sym}
 use Prim.Native.Nat.{◌-◌}
-use native.Mathlib.Omega.{arith}
 use Rattle.semantics.specs.Base.{up_to}
-use Rattle.theory.proofs.Lists.{up_to_length}
-use Rattle.theory.proofs.Loops.{up_to_at}
-use Rattle.report.specs.File.{plan_lines, plans_lines}
-use Rattle.report.proofs.Laws.{Stage, stage-begin, stage-room, stage-onward, stage-end}
+use Rattle.report.specs.File.{plan_lines}
+use Rattle.report.proofs.Laws.{Stage}
 use Rattle.report.proofs.put_plans.Given as goal
 
 abbrev pub invariant-loop-i : goal.invariant-loop-i

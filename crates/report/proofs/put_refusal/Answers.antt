@@ -1,6 +1,5 @@
 -- `report::put_refusal` meets its contract. Assumes nothing.
 use native.Mathlib.Omega.{arith}
-use borrow.Author.Rules.{rules}
 use Rattle.semantics.specs.Base.{numbers_from}
 use Rattle.theory.proofs.Laid.{laid-append}
 use Rattle.report.specs.File.{word}

@@ -1,6 +1,5 @@
 -- `report::put_robust` meets its contract. Assumes nothing.
 use native.Mathlib.Omega.{arith}
-use borrow.Author.Rules.{rules}
 use Rattle.semantics.specs.Base.{numbers_from}
 use Rattle.report.specs.File.{word}
 use Rattle.report.proofs.Laws.{line-room}

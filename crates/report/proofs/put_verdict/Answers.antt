@@ -1,7 +1,6 @@
 -- `report::put_verdict` meets its contract. Assumes nothing.
 use Rattle.report.proofs.Faults.{verdict-holds, verdict-room, put-unsolvable, put-not-robust}
 use Rattle.report.proofs.Faults.{put-robust}
-use borrow.Author.Rules.{rules}
 use Rattle.report.proofs.put_verdict.Goals as goal
 
 pub put_failing-requires : goal.put_failing-requires

@@ -1,5 +1,4 @@
 -- `solo_replay::done` meets its contract. Assumes nothing.
-use borrow.Author.Rules.{rules}
 use Rattle.solo_replay.proofs.Laws.{done-is}
 use Rattle.solo_replay.proofs.done.Goals as goal
 

@@ -1,5 +1,4 @@
 -- `solo_replay::entry` meets its contract: one law for each way out. Assumes nothing.
-use borrow.Author.Rules.{rules}
 use Rattle.solo_replay.proofs.Laws.{no-action, other-member, own-action}
 use Rattle.solo_replay.proofs.entry.Goals as goal
 

@@ -1,11 +1,6 @@
 -- `solo_replay::plan_refusal` meets its contract: the first refusal of all entries is that of the entries from k on.
 -- Assumes nothing.
-use borrow.Author.Rules.{rules}
-use Prim.Native.Nat.{◌-◌}
-use lib.ListN.{length}
-use Rattle.semantics.specs.Base.{first_refusal}
-use Rattle.semantics.specs.Solo.{entry}
-use Rattle.theory.proofs.Loops.{Rest, rest-begin}
+use Rattle.theory.proofs.Loops.{rest-begin}
 use Rattle.task.proofs.Refusals.{onward, out, end}
 use Rattle.solo_replay.proofs.plan_refusal.Goals as goal
 

@@ -1,10 +1,8 @@
-use borrow.Author.Rules.{rules}
 use Prim.Native.Nat.{◌-◌}
 use lib.ListN.{length}
 use Rattle.semantics.specs.Base.{first_refusal}
 use Rattle.semantics.specs.Solo.{entry}
-use Rattle.theory.proofs.Loops.{Rest, rest-begin}
-use Rattle.task.proofs.Refusals.{onward, out, end}
+use Rattle.theory.proofs.Loops.{Rest}
 use Rattle.solo_replay.proofs.plan_refusal.Given as goal
 
 abbrev pub invariant-loop-k : goal.invariant-loop-k

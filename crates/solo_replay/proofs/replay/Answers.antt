@@ -1,14 +1,10 @@
 -- `solo_replay::replay` meets its contract: what the plan comes to from I is what its steps from k on come to. Assumes
 -- nothing.
 use borrow.Author.Rules.{rules}
-use Prim.Native.Nat.{ℕ, ◌-◌, ◌<◌}
-use lib.ListN.{length, get_or}
 use native.Mathlib.Omega.{arith}
-use Rattle.semantics.specs.Task.{actions}
 use Rattle.semantics.specs.Solo.{entry}
-use Rattle.mask.specs.Number.{local_number}
 use Rattle.task.proofs.Refusals.{accepted-at}
-use Rattle.solo_replay.proofs.Laws.{entry-action, Played, starts, breaks-there, goes_on, stops-short, ends_there}
+use Rattle.solo_replay.proofs.Laws.{entry-action, starts, breaks-there, goes_on, stops-short, ends_there}
 use Rattle.solo_replay.proofs.replay.Goals as goal
 
 pub loop-k-init : goal.loop-k-init
@@ -18,11 +14,12 @@ pub overflow_cast-a : goal.overflow_cast-a
 overflow_cast-a c = omega (arith, c.shared_slice_known-in-loop-k-1.given c.loop-k.k)
 
 pub local_act-r-requires : goal.local_act-r-requires
-local_act-r-requires c = record { t_value = search rules; 
-    a_bound =
-        entry-action c.args.t.now c.args.i _
-        (accepted-at (entry c.args.t.now c.args.i) c.args.plan.now (search rules) c.loop-k.k (omega arith));
-  }
+local_act-r-requires c = record {
+  t_value = search rules;
+  a_bound =
+      entry-action c.args.t.now c.args.i _
+      (accepted-at (entry c.args.t.now c.args.i) c.args.plan.now (search rules) c.loop-k.k (omega arith));
+}
 
 pub returns-in-Lacks : goal.returns-in-Lacks
 returns-in-Lacks c = search breaks-there

@@ -1,5 +1,4 @@
 -- `solo_replay::solo_replay` meets its contract: one law for each way out. Assumes nothing.
-use borrow.Author.Rules.{rules}
 use Rattle.solo_replay.proofs.Laws.{replay-task, replay-member, replay-entry, replay-gives}
 use Rattle.solo_replay.proofs.solo_replay.Goals as goal
 

@@ -1,7 +1,6 @@
 -- `text::refuse` meets its contract. Assumes nothing.
 use mathlib.Core.Path.{refl}
 use Rattle.text.proofs.Scanning.{cleared}
-use borrow.Author.Rules.{rules}
 use Rattle.text.proofs.refuse.Goals as goal
 
 pub returns : goal.returns

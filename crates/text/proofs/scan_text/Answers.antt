@@ -1,8 +1,5 @@
 -- `text::scan_text` meets its contract: the invariant is that of Scanning.antt. Assumes nothing.
-use borrow.Author.Rules.{rules}
-use Prim.Native.Nat.{◌-◌}
-use lib.ListN.{length}
-use Rattle.text.proofs.Scanning.{Scanning, begin, scan-reach, end-reach, onward, word_room, word_on, out}
+use Rattle.text.proofs.Scanning.{begin, scan-reach, end-reach, onward, word_room, word_on, out}
 use Rattle.text.proofs.Scanning.{index_fits, count_fits, all_found, last-room, last_fits, last_found, no_end}
 use Rattle.text.proofs.scan_text.Goals as goal
 

@@ -1,8 +1,6 @@
-use borrow.Author.Rules.{rules}
 use Prim.Native.Nat.{◌-◌}
 use lib.ListN.{length}
-use Rattle.text.proofs.Scanning.{Scanning, begin, scan-reach, end-reach, onward, word_room, word_on, out}
-use Rattle.text.proofs.Scanning.{index_fits, count_fits, all_found, last-room, last_fits, last_found, no_end}
+use Rattle.text.proofs.Scanning.{Scanning}
 use Rattle.text.proofs.scan_text.Given as goal
 
 abbrev pub invariant-loop-i : goal.invariant-loop-i

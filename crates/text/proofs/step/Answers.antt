@@ -1,5 +1,4 @@
 -- `text::step` meets its contract: each way through it is a case of its definition. Assumes nothing.
-use borrow.Author.Rules.{rules}
 use Rattle.text.proofs.Steps.{next_field_fits, ended_record_fits, begins, too_many, no_field, leading_zero}
 use Rattle.text.proofs.Steps.{goes_on, too_large, next_field, extra_field, ends, too_few, next_record, lone_cr}
 use Rattle.text.proofs.step.Goals as goal

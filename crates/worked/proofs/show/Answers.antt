@@ -1,6 +1,5 @@
 use mathlib.Core.Path.{sym}
 use lib.Seq.{length-take-le}
-use borrow.Author.Rules.{rules}
 use Rattle.worked.proofs.show.Goals as goal
 
 pub slice_bounds-show_words-end : goal.slice_bounds-show_words-end
