@@ -11,9 +11,11 @@ usage: tools/port/names.py [--list] [ROOT]     once, right after Rattle's own po
 
 import os
 import re
+import subprocess
 import sys
 
-STD = "/opt/rattle/rattle"
+# std's folder: beside the page that rt names
+STD = os.path.join(os.path.dirname(subprocess.run(["rt", "doc"], capture_output=True, text=True).stdout), "rattle")
 SIGN = re.compile(r"^(\s*)((?:abbrev |unfoldable |pub )*)(record |data |ruleset )?([A-Za-z][\w'-]*)(\s.*)?$")
 WORD = re.compile(r"(^|[\s(){}\[\].,;\"`⌜⌝∥])([A-Za-z][^\s(){}\[\].,;\"`⌜⌝∥]*)")
 COMMENT = re.compile(r"^\s*--")
