@@ -16,7 +16,6 @@ import sys
 
 # std's folder: beside the page that rt names
 STD = os.path.join(os.path.dirname(subprocess.run(["rt", "doc"], capture_output=True, text=True).stdout), "rattle")
-SIGN = re.compile(r"^(\s*)((?:abbrev |unfoldable |pub )*)(record |data |ruleset )?([A-Za-z][\w'-]*)(\s.*)?$")
 WORD = re.compile(r"(^|[\s(){}\[\].,;\"`⌜⌝∥])([A-Za-z][^\s(){}\[\].,;\"`⌜⌝∥]*)")
 COMMENT = re.compile(r"^\s*--")
 GENERATED = ("Proof.antt",)
@@ -150,7 +149,7 @@ def plan(root):
     return names, fact, new, kept
 
 
-def turn_text(text, new, behind, skip_comments=True):
+def turn_text(text, new, behind):
     """Each token by its new name. behind(token): whether it is turned behind a dot, too."""
     out = []
     for line in text.split("\n"):
