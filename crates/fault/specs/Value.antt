@@ -1,5 +1,4 @@
 -- The paper's fault and verdict for each case of the enums.
-use Rattle.semantics.specs.Base.{Answer, refused, gives}
 use Rattle.semantics.specs.Run as Run
 use Rattle.semantics.specs.Verdict as Paper
 use Rattle.mask.specs.Number.{number}
@@ -8,8 +7,6 @@ use Rattle.fault.specs.declared.Fault.TheVariants.{Collision, Deadlock, Missed}
 use Rattle.fault.specs.declared.Failing.{Failing}
 use Rattle.fault.specs.declared.Verdict.{Verdict}
 use Rattle.fault.specs.declared.Verdict.TheVariants.{Unsolvable, NotRobust, Robust}
-use Rattle.fault.specs.declared.VerdictAnswer.{VerdictAnswer}
-use Rattle.fault.specs.declared.VerdictAnswer.TheVariants.{Refused, Gives}
 
 abbrev pub fault_of : Fault → Run.Fault
 fault_of Collision = Run.collision
@@ -23,7 +20,3 @@ abbrev pub verdict_of : Verdict → Paper.Verdict Paper.Failing
 verdict_of (Unsolvable i) = Paper.unsolvable i
 verdict_of (NotRobust f) = Paper.not_robust (failing_of f)
 verdict_of (Robust n) = Paper.robust n
-
-abbrev pub answer_of : VerdictAnswer → Answer (Paper.Verdict Paper.Failing)
-answer_of (Refused k) = refused k
-answer_of (Gives v) = gives (verdict_of v)

@@ -3,7 +3,9 @@
 
 #![tactic(auto)]
 
-ghost use Rattle.std.specs.Prelude.{◌≡◌, ◌<◌, length, eqb};
+ghost use Rattle.std.specs.Prelude.{◌≡◌, ◌<◌, length, slice_index, eqb};
+ghost use Rattle.std.proofs.Common.{rules};
+ghost use Rattle.std.specs.Cmp.Rules.{comparing};
 ghost use Rattle.semantics.specs.Mask.{has, within, without, after, below};
 ghost use Rattle.semantics.specs.Words.{of_words, words_of, states_in};
 ghost use Rattle.mask.specs.Number.{number};
@@ -35,18 +37,22 @@ pub fn none() -> Mask
     Mask(0, 0)
 }
 
-// The mask that two words hold.
-pub fn of_words(low: u64, high: u64) -> Mask
-    ensures { number result ≡ of_words low high }
-{
-    Mask(low, high)
+// The mask that two words hold, the low one first.
+impl From<Words> for Mask {
+    ghost from_gives = { λ w m. number m ≡ of_words (slice_index w 0) (slice_index w 1) };
+
+    fn from(w: Words) -> Mask {
+        Mask(w[0], w[1])
+    }
 }
 
 // The words that hold a mask.
-pub fn words(m: Mask) -> Words
-    ensures { result ≡ words_of (number m) }
-{
-    [m.0, m.1]
+impl From<Mask> for Words {
+    ghost from_gives = { λ m w. w ≡ words_of (number m) };
+
+    fn from(m: Mask) -> Words {
+        [m.0, m.1]
+    }
 }
 
 // How many masks have room in so many words.
@@ -75,14 +81,20 @@ pub fn store(words: &mut [u64], k: usize, m: Mask)
     words[at + 1] = m.1;
 }
 
-// The same facts.
-pub fn same(a: Mask, b: Mask) -> bool
-    ensures { result ≡ eqb (number a) (number b) }
-{
-    if a.0 != b.0 {
-        return false;
+// The same facts. By hand, since a derive would say that the words are the same, and clauses speak
+// of the numbers that masks stand for.
+impl PartialEq for Mask {
+    ghost eq = { λ a b. eqb (number a) (number b) };
+
+    ghost laws = { Prim.search (comparing, rules) };
+
+    fn eq(&self, other: &Mask) -> bool {
+        self.0 == other.0 && self.1 == other.1
     }
-    a.1 == b.1
+}
+
+impl Eq for Mask {
+    ghost laws = { Prim.search (comparing, rules) };
 }
 
 // ---- what a step needs and does, word by word

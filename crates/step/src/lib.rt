@@ -3,27 +3,16 @@
 #![tactic(auto)]
 
 ghost use Rattle.std.specs.Prelude.{◌≡◌, ◌<◌};
-ghost use Rattle.semantics.specs.Task.{check, actions};
+ghost use Rattle.semantics.specs.Task.{actions};
 ghost use Rattle.semantics.specs.System.{result_of, system, waits};
 ghost use Rattle.semantics.specs.Step.{routine, step};
 ghost use Rattle.mask.specs.Number.{number, local_number, shared_number};
-ghost use Rattle.step.specs.Value.{attempt_of, local_attempt_of, decision_of, stepped_of};
+ghost use Rattle.refusal.specs.Number.{answered};
+ghost use Rattle.step.specs.Value.{attempt_of, decision_of};
 
 use mask::{Local, Mask, Shared};
-
-// What an action makes of a mask: a new one, or nothing, where the mask lacks preconditions: these.
-#[derive(Clone, Copy)]
-enum Attempt {
-    To(Mask),
-    Lacks(Mask),
-}
-
-// The same of a local copy.
-#[derive(Clone, Copy)]
-pub enum LocalAttempt {
-    To(Local),
-    Lacks(Mask),
-}
+use refusal::Refusal;
+use task::Task;
 
 // What a pending action answers at a shared copy: go with the new one, wait, or collision with the
 // preconditions that are missing.
@@ -34,100 +23,77 @@ pub enum Decision {
     Collision(Mask),
 }
 
-// The operation's answer.
-#[derive(Clone, Copy)]
-pub enum Stepped {
-    Refused(u64),
-    Gives(Decision),
-}
-
 // ---- actions of an accepted task on a mask
 
 // Some fact that action a waits for does not stand in m.
-fn waits(t: &[u64], a: usize, m: Mask) -> bool
-    requires t_value { check t.now ≡ 0 }
-    requires a_bound { a < actions t.now }
-    ensures { result ≡ waits t.now a (number m) }
+fn waits(t: &Task, a: usize, m: Mask) -> bool
+    requires { a < actions t.now.words.now }
+    ensures { result ≡ waits t.now.words.now a (number m) }
 {
-    !mask::within(task::wait(t, a), m)
+    !mask::within(t.wait(a), m)
 }
 
-// What action a makes of m.
-fn act(t: &[u64], a: usize, m: Mask) -> Attempt
-    requires t_value { check t.now ≡ 0 }
-    requires a_bound { a < actions t.now }
-    ensures { attempt_of result ≡ (system t.now).act a (number m) }
+// What action a makes of m: a new mask, or the preconditions that m lacks.
+fn act(t: &Task, a: usize, m: Mask) -> Result<Mask, Mask>
+    requires { a < actions t.now.words.now }
+    ensures { attempt_of number result ≡ (system t.now.words.now).act a (number m) }
 {
-    let pre = task::pre(t, a);
+    let pre = t.pre(a);
     if !mask::within(pre, m) {
-        let missing = mask::without(pre, m);
-        return Attempt::Lacks(missing);
+        return Err(mask::without(pre, m));
     }
-    let next = mask::after(m, task::add(t, a), task::del(t, a));
-    Attempt::To(next)
+    Ok(mask::after(m, t.add(a), t.del(a)))
 }
 
 // ---- on a member's local copy
 
-// What action a makes of the local copy s.
-pub fn local_act(t: &[u64], a: usize, s: Local) -> LocalAttempt
-    requires t_value { check t.now ≡ 0 }
-    requires a_bound { a < actions t.now }
-    ensures { local_attempt_of result ≡ (system t.now).act a (local_number s) }
+// What action a makes of the local copy s: a new one, or the preconditions that s lacks.
+pub fn local_act(t: &Task, a: usize, s: Local) -> Result<Local, Mask>
+    requires { a < actions t.now.words.now }
+    ensures { attempt_of local_number result
+        ≡ (system t.now.words.now).act a (local_number s) }
 {
-    let r = act(t, a, s.0);
-    match r {
-        Attempt::To(m) => LocalAttempt::To(Local(m)),
-        Attempt::Lacks(missing) => LocalAttempt::Lacks(missing),
-    }
+    Ok(Local(act(t, a, s.0)?))
 }
 
 // The local copy after action a; s itself where it lacks preconditions.
-pub fn local_result(t: &[u64], a: usize, s: Local) -> Local
-    requires t_value { check t.now ≡ 0 }
-    requires a_bound { a < actions t.now }
-    ensures { local_number result ≡ result_of (system t.now) a (local_number s) }
+pub fn local_result(t: &Task, a: usize, s: Local) -> Local
+    requires { a < actions t.now.words.now }
+    ensures { local_number result
+        ≡ result_of (system t.now.words.now) a (local_number s) }
 {
-    let r = local_act(t, a, s);
-    match r {
-        LocalAttempt::To(x) => x,
-        LocalAttempt::Lacks(_) => s,
-    }
+    local_act(t, a, s).unwrap_or(s)
 }
 
 // ---- on the shared copy
 
 // Action a of an accepted task at the shared copy g. No other routine decides this.
-pub fn decide(t: &[u64], a: usize, g: Shared) -> Decision
-    requires t_value { check t.now ≡ 0 }
-    requires a_bound { a < actions t.now }
+pub fn decide(t: &Task, a: usize, g: Shared) -> Decision
+    requires { a < actions t.now.words.now }
     ensures { decision_of result
-        ≡ routine (system t.now) (waits t.now) a (shared_number g) }
+        ≡ routine (system t.now.words.now) (waits t.now.words.now) a (shared_number g) }
 {
     if waits(t, a, g.0) {
         return Decision::Wait;
     }
-    let r = act(t, a, g.0);
-    match r {
-        Attempt::To(m) => Decision::Go(Shared(m)),
-        Attempt::Lacks(missing) => Decision::Collision(missing),
+    match act(t, a, g.0) {
+        Ok(m) => Decision::Go(Shared(m)),
+        Err(missing) => Decision::Collision(missing),
     }
 }
 
 // The operation, for every input.
-pub fn step(t: &[u64], action: u16, g: Shared) -> Stepped
-    ensures { stepped_of result ≡ step t.now action (shared_number g) }
+pub fn step(words: &[u64], action: u16, g: Shared) -> Result<Decision, Refusal>
+    ensures { answered decision_of result
+        ≡ step words.now action (shared_number g) }
 {
-    let e = task::check(t);
-    if e != 0 {
-        return Stepped::Refused(e);
-    }
+    let t = task::check(words)?;
     let a = action as usize;
-    if task::actions(t) <= a {
-        return Stepped::Refused(7);
+    if t.actions() <= a {
+        return Err(Refusal::Action);
     }
-    if !mask::below(task::facts(t), g.0) {
-        return Stepped::Refused(4);
+    if !mask::below(t.facts(), g.0) {
+        return Err(Refusal::Fact);
     }
-    Stepped::Gives(decide(t, a, g))
+    Ok(decide(&t, a, g))
 }

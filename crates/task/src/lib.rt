@@ -2,16 +2,18 @@
 
 #![tactic(auto)]
 
-ghost use Rattle.std.specs.Prelude.{◌≡◌, true, ◌+◌, ◌*◌, ◌≤◌, ◌<◌, length, eqb};
+ghost use Rattle.std.specs.Prelude.{◌≡◌, true, ◌+◌, ◌*◌, ◌≤◌, ◌<◌, length, eqb, IfOk};
 ghost use Rattle.semantics.specs.Base.{up_to, first_refusal};
 ghost use Rattle.semantics.specs.Task.{row_width, word, mask_in, facts, members, actions, initial};
 ghost use Rattle.semantics.specs.Task.{goal, action_at, owner, pre, wait, add, del, zeros_from};
 ghost use Rattle.semantics.specs.Task.{mask_fits, head_fits, goal_row, action_row, check};
 ghost use Rattle.mask.specs.Number.{number};
+ghost use Rattle.refusal.specs.Number.{code};
 ghost use Rattle.semantics.specs.Mask.{within};
 ghost use Rattle.task.specs.Inner.Shape.{Sized, masks_below, rows_refusal};
 
 use mask::Mask;
+use refusal::Refusal;
 
 // Words in a row: a number, then four masks.
 const ROW: usize = 9;
@@ -31,7 +33,7 @@ fn mask_in(t: &[u64], r: usize, k: usize) -> Mask
 {
     let low = word(t, r, k);
     let high = word(t, r, k + 1);
-    mask::of_words(low, high)
+    Mask::from([low, high])
 }
 
 // The row of action a.
@@ -73,13 +75,10 @@ fn zeros(t: &[u64], r: usize, k: usize) -> bool
     requires k_le_row_width { k ≤ row_width }
     ensures { result ≡ zeros_from t.now r k }
 {
-    let n = ROW - k;
-    let mut j = 0;
-    while j < n {
+    for j in 0..ROW - k {
         if word(t, r, k + j) != 0 {
             return false;
         }
-        j += 1;
     }
     true
 }
@@ -129,40 +128,36 @@ fn below(t: &[u64], r: usize, k: usize) -> bool
 }
 
 // Member i's goal row.
-fn goal_row(t: &[u64], i: usize) -> u64
+fn goal_row(t: &[u64], i: usize) -> Result<(), Refusal>
     requires sized { Sized t.now }
     requires i_bound { i < members t.now }
-    ensures { result ≡ goal_row t.now i }
+    ensures { code result ≡ goal_row t.now i }
 {
     let r = 1 + i;
     if word(t, r, 0) != i as u64 {
-        return 3;
+        return Err(Refusal::GoalRow);
     }
     if !zeros(t, r, 3) {
-        return 3;
+        return Err(Refusal::GoalRow);
     }
     if !below(t, r, 1) {
-        return 4;
+        return Err(Refusal::Fact);
     }
-    0
+    Ok(())
 }
 
-// The first refusal of a goal row.
-fn goal_rows(t: &[u64]) -> u64
+// The first refusal of a goal row. Like `action_rows` but for the rows: one function of both would
+// take a closure and say in its contract what `goal_row` and `action_row` say.
+fn goal_rows(t: &[u64]) -> Result<(), Refusal>
     requires { Sized t.now }
-    ensures { result
+    ensures { code result
         ≡ first_refusal (goal_row t.now) (up_to (members t.now)) }
 {
     let n = word(t, 0, 1) as usize;
-    let mut i = 0;
-    while i < n {
-        let e = goal_row(t, i);
-        if e != 0 {
-            return e;
-        }
-        i += 1;
+    for i in 0..n {
+        goal_row(t, i)?;
     }
-    0
+    Ok(())
 }
 
 // No bit of the mask in words k and k + 1 of action a's row at or above F.
@@ -206,177 +201,151 @@ fn wait_in_pre(t: &[u64], a: usize) -> bool
 }
 
 // Action a's row.
-fn action_row(t: &[u64], a: usize) -> u64
+fn action_row(t: &[u64], a: usize) -> Result<(), Refusal>
     requires sized { Sized t.now }
     requires a_bound { a < actions t.now }
-    ensures { result ≡ action_row t.now a }
+    ensures { code result ≡ action_row t.now a }
 {
     let o = owner_word(t, a);
     let n = word(t, 0, 1);
     if n <= o {
-        return 5;
+        return Err(Refusal::Owner);
     }
     if !masks_below(t, a) {
-        return 4;
+        return Err(Refusal::Fact);
     }
     if !wait_in_pre(t, a) {
-        return 6;
+        return Err(Refusal::Wait);
     }
-    0
+    Ok(())
 }
 
 // The first refusal of an action row.
-fn action_rows(t: &[u64]) -> u64
+fn action_rows(t: &[u64]) -> Result<(), Refusal>
     requires { Sized t.now }
-    ensures { result
+    ensures { code result
         ≡ first_refusal (action_row t.now) (up_to (actions t.now)) }
 {
     let m = word(t, 0, 2) as usize;
-    let mut a = 0;
-    while a < m {
-        let e = action_row(t, a);
-        if e != 0 {
-            return e;
-        }
-        a += 1;
+    for a in 0..m {
+        action_row(t, a)?;
     }
-    0
+    Ok(())
 }
 
 // The first refusal of a row.
-fn rows(t: &[u64]) -> u64
+fn rows(t: &[u64]) -> Result<(), Refusal>
     requires { Sized t.now }
-    ensures { result ≡ rows_refusal t.now }
+    ensures { code result ≡ rows_refusal t.now }
 {
-    let e = goal_rows(t);
-    if e != 0 {
-        return e;
-    }
+    goal_rows(t)?;
     action_rows(t)
 }
 
-// The task check: the first refusal, 0 where the task is accepted.
-pub fn check(t: &[u64]) -> u64
-    ensures { result ≡ check t.now }
+// ---- an accepted task
+
+// A task that the check accepts: its words. No other has a value of this type.
+#[derive(Clone, Copy)]
+pub struct Task<'a> {
+    pub words: &'a [u64],
+    pub ghost accepted: { check words.now ≡ 0 },
+}
+
+// The task check: the accepted task, or the first refusal.
+pub fn check(words: &[u64]) -> Result<Task<'_>, Refusal>
+    ensures refusal { code result ≡ check words.now }
+    ensures task { IfOk result (λ t. t.words.now ≡ words.now) }
 {
-    if t.len() < ROW {
-        return 1;
+    if words.len() < ROW {
+        return Err(Refusal::Length);
     }
-    if !head_fits(t) {
-        return 2;
+    if !head_fits(words) {
+        return Err(Refusal::Range);
     }
-    if !sized(t) {
-        return 1;
+    if !sized(words) {
+        return Err(Refusal::Length);
     }
-    if !below(t, 0, 3) {
-        return 4;
+    if !below(words, 0, 3) {
+        return Err(Refusal::Fact);
     }
-    rows(t)
+    rows(words)?;
+    Ok(Task { words })
 }
 
-// ---- readers of an accepted task
+impl<'a> Task<'a> {
+    // F.
+    pub fn facts(&self) -> u64
+        ensures { result ≡ facts self.now.words.now }
+    {
+        word(self.words, 0, 0)
+    }
 
-// Word k of row 0.
-fn head_word(t: &[u64], k: usize) -> u64
-    requires t_value { check t.now ≡ 0 }
-    requires k_lt_row_width { k < row_width }
-    ensures { result ≡ word t.now 0 k }
-{
-    word(t, 0, k)
-}
+    // n.
+    pub fn members(&self) -> usize
+        ensures { result ≡ members self.now.words.now }
+    {
+        word(self.words, 0, 1) as usize
+    }
 
-// The mask in words k and k + 1 of action a's row.
-fn field(t: &[u64], a: usize, k: usize) -> Mask
-    requires t_value { check t.now ≡ 0 }
-    requires a_bound { a < actions t.now }
-    requires k_bound { k + 1 < row_width }
-    ensures { number result ≡ mask_in t.now (action_at t.now a) k }
-{
-    action_mask(t, a, k)
-}
+    // m.
+    pub fn actions(&self) -> usize
+        ensures { result ≡ actions self.now.words.now }
+    {
+        word(self.words, 0, 2) as usize
+    }
 
-// F.
-pub fn facts(t: &[u64]) -> u64
-    requires { check t.now ≡ 0 }
-    ensures { result ≡ facts t.now }
-{
-    head_word(t, 0)
-}
+    // I.
+    pub fn initial(&self) -> Mask
+        ensures { number result ≡ initial self.now.words.now }
+    {
+        mask_in(self.words, 0, 3)
+    }
 
-// n.
-pub fn members(t: &[u64]) -> usize
-    requires { check t.now ≡ 0 }
-    ensures { result ≡ members t.now }
-{
-    head_word(t, 1) as usize
-}
+    // Member i's goal.
+    pub fn goal(&self, i: usize) -> Mask
+        requires { i < members self.now.words.now }
+        ensures { number result ≡ goal self.now.words.now i }
+    {
+        mask_in(self.words, 1 + i, 1)
+    }
 
-// m.
-pub fn actions(t: &[u64]) -> usize
-    requires { check t.now ≡ 0 }
-    ensures { result ≡ actions t.now }
-{
-    head_word(t, 2) as usize
-}
+    // The member whose action a is.
+    pub fn owner(&self, a: usize) -> usize
+        requires { a < actions self.now.words.now }
+        ensures { result ≡ owner self.now.words.now a }
+    {
+        owner_word(self.words, a) as usize
+    }
 
-// I.
-pub fn initial(t: &[u64]) -> Mask
-    requires { check t.now ≡ 0 }
-    ensures { number result ≡ initial t.now }
-{
-    mask_in(t, 0, 3)
-}
+    // Action a's preconditions.
+    pub fn pre(&self, a: usize) -> Mask
+        requires { a < actions self.now.words.now }
+        ensures { number result ≡ pre self.now.words.now a }
+    {
+        action_mask(self.words, a, 1)
+    }
 
-// Member i's goal.
-pub fn goal(t: &[u64], i: usize) -> Mask
-    requires t_value { check t.now ≡ 0 }
-    requires i_bound { i < members t.now }
-    ensures { number result ≡ goal t.now i }
-{
-    mask_in(t, 1 + i, 1)
-}
+    // Those that are waited for.
+    pub fn wait(&self, a: usize) -> Mask
+        requires { a < actions self.now.words.now }
+        ensures { number result ≡ wait self.now.words.now a }
+    {
+        action_mask(self.words, a, 3)
+    }
 
-// The member whose action a is.
-pub fn owner(t: &[u64], a: usize) -> usize
-    requires t_value { check t.now ≡ 0 }
-    requires a_bound { a < actions t.now }
-    ensures { result ≡ owner t.now a }
-{
-    owner_word(t, a) as usize
-}
+    // The facts that action a makes true.
+    pub fn add(&self, a: usize) -> Mask
+        requires { a < actions self.now.words.now }
+        ensures { number result ≡ add self.now.words.now a }
+    {
+        action_mask(self.words, a, 5)
+    }
 
-// Action a's preconditions.
-pub fn pre(t: &[u64], a: usize) -> Mask
-    requires t_value { check t.now ≡ 0 }
-    requires a_bound { a < actions t.now }
-    ensures { number result ≡ pre t.now a }
-{
-    field(t, a, 1)
-}
-
-// Those that are waited for.
-pub fn wait(t: &[u64], a: usize) -> Mask
-    requires t_value { check t.now ≡ 0 }
-    requires a_bound { a < actions t.now }
-    ensures { number result ≡ wait t.now a }
-{
-    field(t, a, 3)
-}
-
-// The facts that action a makes true.
-pub fn add(t: &[u64], a: usize) -> Mask
-    requires t_value { check t.now ≡ 0 }
-    requires a_bound { a < actions t.now }
-    ensures { number result ≡ add t.now a }
-{
-    field(t, a, 5)
-}
-
-// The facts that it makes false, where it does not make them true.
-pub fn del(t: &[u64], a: usize) -> Mask
-    requires t_value { check t.now ≡ 0 }
-    requires a_bound { a < actions t.now }
-    ensures { number result ≡ del t.now a }
-{
-    field(t, a, 7)
+    // The facts that it makes false, where it does not make them true.
+    pub fn del(&self, a: usize) -> Mask
+        requires { a < actions self.now.words.now }
+        ensures { number result ≡ del self.now.words.now a }
+    {
+        action_mask(self.words, a, 7)
+    }
 }

@@ -5,8 +5,8 @@ use Rattle.step.proofs.decide.Goals as goal
 pub returns-then-waits : goal.returns-then-waits
 returns-then-waits c = search waits_there
 
-pub returns-in-To : goal.returns-in-To
-returns-in-To c = search goes-there
+pub returns-in-Ok : goal.returns-in-Ok
+returns-in-Ok c = search goes-there
 
-pub returns-in-Lacks : goal.returns-in-Lacks
-returns-in-Lacks c = search collides-there
+pub returns-in-Err : goal.returns-in-Err
+returns-in-Err c = search collides-there
