@@ -1,5 +1,5 @@
 -- A plan's entry, its replay turn by turn, and the operation's ways out.
-use mathlib.Core.Path.{◌≡◌, refl, sym, ap, ◌∙◌}
+use mathlib.Core.Path.{◌≡◌, sym, ap, ◌∙◌}
 use mathlib.Core.Bool.{Bool, true, false, not}
 use mathlib.Core.List.{List}
 use Prim.Native.Nat.{ℕ, zero, suc, ◌+◌, ◌≤◌, ◌<◌}
@@ -16,10 +16,13 @@ use Rattle.semantics.specs.System.{goes, lacks, system}
 use Rattle.semantics.specs.Solo.{Solo, solves, breaks, short, solo_from, entry, solo_replay}
 use Rattle.mask.specs.Number.{number, local_number}
 use Rattle.mask.specs.declared.Local.{Local}
-use Rattle.step.specs.Value.{local_attempt_of}
+use Rattle.step.specs.Value.{attempt_of}
 use Rattle.mask.specs.declared.Mask.{Mask}
-use Rattle.step.specs.declared.LocalAttempt.{LocalAttempt}
-use Rattle.step.specs.declared.LocalAttempt.TheVariants.{To, Lacks}
+use Rattle.std.specs.Prelude.{Result, Ok, Err}
+use Rattle.refusal.specs.Number as refusal
+use Rattle.refusal.specs.declared.Refusal.{Refusal}
+use Rattle.refusal.proofs.Laws.{number-positive, first-refuses}
+use Rattle.theory.proofs.Loops.{Rest, rest-decides, rest-onward, rest-ends}
 use Rattle.theory.proofs.Refusals.{else_both, if_not-true}
 
 -- ---- an entry
@@ -38,6 +41,24 @@ module _ (t : List ℕ) (i a m : ℕ) (e : m ≡ actions t) where
 pub entry-action : (t : List ℕ) (i a : ℕ) → entry t i a ≡ 0 → a < actions t
 entry-action t i a h = ltb-true a (actions t) (if_not-true 6 (ltb a (actions t)) (else_both _ _ h).0)
 
+-- ---- the first refusal of all entries is that of those from k on
+
+module _ (f : ℕ → ℕ) (xs : List ℕ) (k : ℕ) (r : Rest (first_refusal f) xs k) where
+  module _ (h : k < length xs) where
+    pub onward : 0 ≡ f (get_or xs k 0) → Rest (first_refusal f) xs (k + 1)
+    unfolding first_refusal
+    onward z = rest-onward (first_refusal f) xs k r 0 h (rw (← z))
+
+    pub out : (e : Refusal) → refusal.number e ≡ f (get_or xs k 0) → refusal.number e ≡ first_refusal f xs
+    unfolding first_refusal
+    out e q =
+        sym (rest-decides (first_refusal f) xs k r 0 h (refusal.number e)
+        (sym (first-refuses e (f (get_or xs k 0)) (first_refusal f (drop (k + 1) xs)) q)))
+
+  pub end : length xs ≤ k → 0 ≡ first_refusal f xs
+  unfolding first_refusal
+  end h = sym (rest-ends (first_refusal f) xs k r h)
+
 -- ---- the replay in turn
 
 -- what the plan comes to from I is what its steps from k on come to from s
@@ -50,17 +71,19 @@ module _ (t : List ℕ) (i : ℕ) (plan : List ℕ) where
   starts s e = record { most = omega arith; rest = rw e }
 
   module _ (s k : ℕ) (r : Played t i plan s k) where
-    module _ (h : k < length plan) (n : LocalAttempt) (is : local_attempt_of n ≡ (system t).act (get_or plan k 0) s) where
-      pub breaks-there : (m : Mask) → n ≡ Lacks m → breaks k ≡ solo_from (system t) i 0 (initial t) plan
+    module _ (h : k < length plan) (n : Result Local Mask)
+        (is : attempt_of local_number n ≡ (system t).act (get_or plan k 0) s) where
+      pub breaks-there : (m : Mask) → n ≡ Err m → breaks k ≡ solo_from (system t) i 0 (initial t) plan
       unfolding solo_from
       breaks-there m e =
-          let q : lacks (number m) ≡ (system t).act (get_or plan k 0) s = sym (ap local_attempt_of e) ∙ is in
+          let q : lacks (number m) ≡ (system t).act (get_or plan k 0) s = sym (ap (attempt_of local_number) e) ∙ is in
           sym (r.rest ∙ rw (drop-cons plan k 0 h, ← q))
 
-      pub goes_on : (x : Local) → n ≡ To x → Played t i plan (local_number x) (k + 1)
+      pub goes_on : (x : Local) → n ≡ Ok x → Played t i plan (local_number x) (k + 1)
       unfolding solo_from
       goes_on x e =
-          let q : goes (local_number x) ≡ (system t).act (get_or plan k 0) s = sym (ap local_attempt_of e) ∙ is in
+          let q : goes (local_number x) ≡ (system t).act (get_or plan k 0) s =
+          sym (ap (attempt_of local_number) e) ∙ is in
           record { most = omega arith; rest = r.rest ∙ rw (drop-cons plan k 0 h, ← q, add-one k) }
 
     module _ (h : length plan ≤ k) (b : Bool) (q : b ≡ (system t).goal i s) where
@@ -75,28 +98,36 @@ module _ (t : List ℕ) (i : ℕ) (plan : List ℕ) where
 -- ---- the operation
 
 module _ (t : List ℕ) (i : ℕ) (plan : List ℕ) where
-  pub replay-task : (r : ℕ) → r ≡ check t → (r ≡ 0 → ⊥) → refused r ≡ solo_replay t i plan
+  refused-first : (r : ℕ) → 0 < r → r ≡ check t → refused r ≡ solo_replay t i plan
   unfolding solo_replay
-  replay-task zero e h = absurd (h refl)
-  replay-task (suc r) e h = rw (← e)
+  refused-first zero h e = absurd (omega arith)
+  refused-first (suc r) h e = rw (← e)
 
-  module _ (r : ℕ) (e : r ≡ check t) (h : r ≡ 0) (n : ℕ) (e₁ : n ≡ members t) where
+  pub replay-task : (e : Refusal) → refusal.number e ≡ check t → refused (refusal.number e) ≡ solo_replay t i plan
+  replay-task e q = refused-first (refusal.number e) (number-positive e) q
+
+  -- u are the words of the accepted task
+  module _ (u : List ℕ) (same : u ≡ t) (h : check u ≡ 0) (n : ℕ) (e₁ : n ≡ members u) where
     pub replay-member : n ≤ i → refused 8 ≡ solo_replay t i plan
     unfolding solo_replay
-    replay-member h₁ = let l : members t ≤ i = omega arith in rw (← e, h, le-ltb i (members t) l)
+    replay-member h₁ = let l : members u ≤ i = omega arith in rw (← same, h, le-ltb i (members u) l)
 
     module _ (h₁ : i < n) where
-      pub replay-entry : (p : ℕ) → p ≡ first_refusal (entry t i) plan → (p ≡ 0 → ⊥) → refused p ≡ solo_replay t i plan
+      plan-first : (p : ℕ) → 0 < p → p ≡ first_refusal (entry u i) plan → refused p ≡ solo_replay t i plan
       unfolding solo_replay
-      replay-entry zero e₂ h₂ = absurd (h₂ refl)
-      replay-entry (suc p) e₂ h₂ = let l : i < members t = omega arith in rw (← e, h, lt-ltb i (members t) l, ← e₂)
+      plan-first zero k e = absurd (omega arith)
+      plan-first (suc p) k e = let l : i < members u = omega arith in rw (← same, h, lt-ltb i (members u) l, ← e)
 
-      pub replay-gives : (p : ℕ) → p ≡ first_refusal (entry t i) plan → p ≡ 0 → (s : Solo)
-          → s ≡ solo_from (system t) i 0 (initial t) plan
+      pub replay-entry : (p : Refusal) → refusal.number p ≡ first_refusal (entry u i) plan
+          → refused (refusal.number p) ≡ solo_replay t i plan
+      replay-entry p e = plan-first (refusal.number p) (number-positive p) e
+
+      pub replay-gives : 0 ≡ first_refusal (entry u i) plan → (s : Solo)
+          → s ≡ solo_from (system u) i 0 (initial u) plan
           → gives s ≡ solo_replay t i plan
       unfolding solo_replay
-      replay-gives p e₂ h₂ s k = let l : i < members t =
-          omega arith in rw (← e, h, lt-ltb i (members t) l, ← e₂, h₂, ← k)
+      replay-gives e s k = let l : i < members u =
+          omega arith in rw (← same, h, lt-ltb i (members u) l, ← e, ← k)
 
 -- ---- the goal
 

@@ -4,14 +4,16 @@
 
 ghost use Rattle.std.specs.Prelude.{◌≡◌, ◌<◌};
 ghost use Rattle.semantics.specs.Base.{first_refusal};
-ghost use Rattle.semantics.specs.Task.{check, members, actions, initial};
+ghost use Rattle.semantics.specs.Task.{members, initial};
 ghost use Rattle.semantics.specs.System.{system};
 ghost use Rattle.semantics.specs.Solo.{entry, solo_from, solo_replay};
 ghost use Rattle.mask.specs.Number.{local_number};
-ghost use Rattle.solo_replay.specs.Value.{solo_of, answer_of};
+ghost use Rattle.refusal.specs.Number.{code, answered};
+ghost use Rattle.solo_replay.specs.Value.{solo_of};
 
 use mask::Local;
-use step::LocalAttempt;
+use refusal::Refusal;
+use task::Task;
 
 // What a plan comes to: it solves; its step at an index lacks a precondition; or all steps are done
 // and the goal is missing.
@@ -22,82 +24,61 @@ pub enum Solo {
     Short,
 }
 
-// The operation's answer.
-#[derive(Clone, Copy)]
-pub enum SoloAnswer {
-    Refused(u64),
-    Gives(Solo),
-}
-
-// An entry of a plan of member i: 7 no action, 10 another member's.
-fn entry(t: &[u64], i: usize, action: u16) -> u64
-    requires { check t.now ≡ 0 }
-    ensures { result ≡ entry t.now i action }
+// An entry of a plan of member i: no action, or another member's, is refused.
+fn entry(t: &Task, i: usize, action: u16) -> Result<(), Refusal>
+    ensures { code result ≡ entry t.now.words.now i action }
 {
     let a = action as usize;
-    if task::actions(t) <= a {
-        return 7;
+    if t.actions() <= a {
+        return Err(Refusal::Action);
     }
-    if task::owner(t, a) != i {
-        return 10;
+    if t.owner(a) != i {
+        return Err(Refusal::Others);
     }
-    0
+    Ok(())
 }
 
 // The first refusal of an entry of a plan of member i.
-pub fn plan_refusal(t: &[u64], i: usize, plan: &[u16]) -> u64
-    requires { check t.now ≡ 0 }
-    ensures { result ≡ first_refusal (entry t.now i) plan.now }
+pub fn plan_refusal(t: &Task, i: usize, plan: &[u16]) -> Result<(), Refusal>
+    ensures { code result ≡ first_refusal (entry t.now.words.now i) plan.now }
 {
-    let mut k = 0;
-    while k < plan.len() {
-        let r = entry(t, i, plan[k]);
-        if r != 0 {
-            return r;
-        }
-        k += 1;
+    for action in plan {
+        entry(t, i, *action)?;
     }
-    0
+    Ok(())
 }
 
 // ---- a member's steps on its local copy
 
 // The local copy that every member starts with.
-pub fn start(t: &[u64]) -> Local
-    requires { check t.now ≡ 0 }
-    ensures { local_number result ≡ (system t.now).init }
+pub fn start(t: &Task) -> Local
+    ensures { local_number result ≡ (system t.now.words.now).init }
 {
-    Local(task::initial(t))
+    Local(t.initial())
 }
 
 // Member i's goal holds in s.
-pub fn done(t: &[u64], i: usize, s: Local) -> bool
-    requires t_value { check t.now ≡ 0 }
-    requires i_bound { i < members t.now }
-    ensures { result ≡ (system t.now).goal i (local_number s) }
+pub fn done(t: &Task, i: usize, s: Local) -> bool
+    requires { i < members t.now.words.now }
+    ensures { result ≡ (system t.now.words.now).goal i (local_number s) }
 {
-    mask::within(task::goal(t, i), s.0)
+    mask::within(t.goal(i), s.0)
 }
 
 // A plan of member i that is not refused, from I.
-pub fn replay(t: &[u64], i: usize, plan: &[u16]) -> Solo
-    requires t_value { check t.now ≡ 0 }
-    requires i_bound { i < members t.now }
-    requires plan_value { first_refusal (entry t.now i) plan.now ≡ 0 }
+pub fn replay(t: &Task, i: usize, plan: &[u16]) -> Solo
+    requires i_bound { i < members t.now.words.now }
+    requires plan_value { first_refusal (entry t.now.words.now i) plan.now ≡ 0 }
     ensures { solo_of result
-        ≡ solo_from (system t.now) i 0 (initial t.now)
+        ≡ solo_from (system t.now.words.now) i 0 (initial t.now.words.now)
         plan.now }
 {
     let mut s = start(t);
-    let mut k = 0;
-    while k < plan.len() {
-        let a = plan[k] as usize;
-        let r = step::local_act(t, a, s);
-        match r {
-            LocalAttempt::To(x) => s = x,
-            LocalAttempt::Lacks(_) => return Solo::Breaks(k),
+    for (k, action) in plan.iter().enumerate() {
+        match step::local_act(t, *action as usize, s) {
+            Ok(x) => s = x,
+            Err(_) => return Solo::Breaks(k),
         }
-        k += 1;
     }
     if !done(t, i, s) {
         return Solo::Short;
@@ -106,20 +87,14 @@ pub fn replay(t: &[u64], i: usize, plan: &[u16]) -> Solo
 }
 
 // The operation, for every input.
-pub fn solo_replay(t: &[u64], member: u8, plan: &[u16]) -> SoloAnswer
-    ensures { answer_of result ≡ solo_replay t.now member plan.now }
+pub fn solo_replay(words: &[u64], member: u8, plan: &[u16]) -> Result<Solo, Refusal>
+    ensures { answered solo_of result ≡ solo_replay words.now member plan.now }
 {
-    let e = task::check(t);
-    if e != 0 {
-        return SoloAnswer::Refused(e);
-    }
+    let t = task::check(words)?;
     let i = member as usize;
-    if task::members(t) <= i {
-        return SoloAnswer::Refused(8);
+    if t.members() <= i {
+        return Err(Refusal::Member);
     }
-    let p = plan_refusal(t, i, plan);
-    if p != 0 {
-        return SoloAnswer::Refused(p);
-    }
-    SoloAnswer::Gives(replay(t, i, plan))
+    plan_refusal(&t, i, plan)?;
+    Ok(replay(&t, i, plan))
 }

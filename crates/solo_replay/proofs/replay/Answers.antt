@@ -10,19 +10,12 @@ use Rattle.solo_replay.proofs.replay.Goals as goal
 pub loop-k-init : goal.loop-k-init
 loop-k-init c = search starts
 
-pub overflow_cast-a : goal.overflow_cast-a
-overflow_cast-a c = omega (arith, c.shared_slice_known-in-loop-k-1.given c.loop-k.k)
+pub local_act-requires : goal.local_act-requires
+local_act-requires c = entry-action c.args.t.now.words.now c.args.i _
+    (accepted-at (entry c.args.t.now.words.now c.args.i) c.args.plan.now (search rules) c.loop-k.k (omega arith))
 
-pub local_act-r-requires : goal.local_act-r-requires
-local_act-r-requires c = record {
-  t_value = search rules;
-  a_bound =
-      entry-action c.args.t.now c.args.i _
-      (accepted-at (entry c.args.t.now c.args.i) c.args.plan.now (search rules) c.loop-k.k (omega arith));
-}
-
-pub returns-in-Lacks : goal.returns-in-Lacks
-returns-in-Lacks c = search breaks-there
+pub returns-in-Err : goal.returns-in-Err
+returns-in-Err c = search breaks-there
 
 pub loop-k-preserved : goal.loop-k-preserved
 loop-k-preserved c = search goes_on
