@@ -1,17 +1,18 @@
 -- What the dispatcher's operations give back.
-use Rattle.std.specs.Prelude.{◌≡◌, ℕ}
+use Rattle.std.specs.Prelude.{◌≡◌, ℕ, Result}
 use Rattle.semantics.specs.Base as Base
 use Rattle.semantics.specs.Base.{refused, gives, unless}
 use Rattle.semantics.specs.Run as Paper
 use Rattle.semantics.specs.Run.{pass_over}
 use Rattle.semantics.specs.Dispatch as Dispatch
+use Rattle.refusal.specs.declared.Refusal.{Refusal}
 use Rattle.run_pick.specs.Value.{answer_of, replies}
-use Rattle.run_pick.specs.declared.Answer.{Answer}
+use Rattle.run_pick.specs.declared.Reply.{Reply}
 use Rattle.run_ticket.specs.Value.{numbered_of}
 use Rattle.run_ticket.specs.declared.Numbered.{Numbered}
 
 -- a pick or a commit on a lent run: its answer, and the run at exit: as it was where there is a refusal
-pub record LentMeans (meaning : Base.Answer (Paper.Replied (Dispatch.Numbered ℕ))) (entry : Numbered) (answer : Answer)
+pub record LentMeans (meaning : Base.Answer (Paper.Replied (Dispatch.Numbered ℕ))) (entry : Numbered) (answer : Result Reply Refusal)
     (exit : Numbered) : Type 0 where
   pub answers : answer_of answer ≡ replies meaning
   pub leaves : numbered_of exit ≡ pass_over (numbered_of entry) meaning

@@ -4,54 +4,52 @@
 #![tactic(auto)]
 
 ghost use Rattle.semantics.specs.Dispatch.{start_of, pick_numbered, play_on, commit_on};
+ghost use Rattle.refusal.specs.Number.{code};
 ghost use Rattle.run_ticket.specs.Value.{numbered_of, ticket_of, DispatchMeans};
 ghost use Rattle.run_dispatch.specs.Value.{empty_run, LentMeans, RunMeans};
 
 use mask::Shared;
-use run_pick::{Answer, Closed, Run};
+use refusal::Refusal;
+use run_pick::{Answer, Run};
 use run_play::Played;
 use run_ticket::{Dispatched, Numbered, Ticket};
 
-// The task check's refusal, 0 where there is none, and the run at the start.
+// Whether the task is refused, and the run at the start, of which the contract speaks in either
+// case.
 #[derive(Clone, Copy)]
 pub struct Started {
-    pub refusal: u64,
+    pub answer: Result<(), Refusal>,
     pub run: Numbered,
 }
 
 // The run at the start, for every input; at the empty copy where the task is refused.
 pub fn start(t: &[u64]) -> Started
-    ensures { RunMeans (start_of t.now) empty_run result.refusal result.run }
+    ensures { RunMeans (start_of t.now) empty_run (code result.answer) result.run }
 {
-    let c = task::check(t);
-    if c != 0 {
-        let g = Shared(mask::none());
-        let none = Run {
-            shared: g,
-            places: [0; 8],
-            closed: Closed::NotYet,
-        };
-        let first = Numbered {
-            run: none,
-            change: 0,
-        };
-        return Started {
-            refusal: c,
-            run: first,
-        };
-    }
-    let run = run_pick::start(t);
-    let first = Numbered {
-        run: run,
-        change: 0,
-    };
-    Started {
-        refusal: 0,
-        run: first,
+    match task::check(t) {
+        Err(e) => Started {
+            answer: Err(e),
+            run: Numbered {
+                run: Run {
+                    shared: Shared(mask::none()),
+                    places: [0; 8],
+                    closed: None,
+                },
+                change: 0,
+            },
+        },
+        Ok(task) => Started {
+            answer: Ok(()),
+            run: Numbered {
+                run: run_pick::start(&task),
+                change: 0,
+            },
+        },
     }
 }
 
-// A pick that updates the run, for every input.
+// A pick that updates the run, for every input. Like `commit` but for what it calls and means: a
+// generic one would take the call and its meaning, and say no more.
 pub fn pick(t: &[u64], plans: &[u16], ends: &[u64], run: &mut Numbered, member: u8) -> Answer
     ensures { LentMeans
         (pick_numbered t.now plans.now ends.now
@@ -75,7 +73,7 @@ pub fn commit(t: &[u64], plans: &[u16], ends: &[u64], run: &mut Numbered, ticket
     p.answer
 }
 
-// A run that is lent for one pick.
+// A run that is lent for one pick; like `commit_once`, as above.
 pub fn once(t: &[u64], plans: &[u16], ends: &[u64], run: Numbered, member: u8) -> Dispatched
     ensures { DispatchMeans
         (pick_numbered t.now plans.now ends.now
@@ -83,10 +81,7 @@ pub fn once(t: &[u64], plans: &[u16], ends: &[u64], run: Numbered, member: u8) -
 {
     let mut lent = run;
     let answer = pick(t, plans, ends, &mut lent, member);
-    Dispatched {
-        answer: answer,
-        run: lent,
-    }
+    Dispatched { answer, run: lent }
 }
 
 // A run that is lent for one commit.
@@ -103,10 +98,7 @@ pub fn commit_once(
 {
     let mut lent = run;
     let answer = commit(t, plans, ends, &mut lent, ticket);
-    Dispatched {
-        answer: answer,
-        run: lent,
-    }
+    Dispatched { answer, run: lent }
 }
 
 // A list of picks on a run, for every input; the task, plans and run are looked at once. Any run
@@ -115,7 +107,7 @@ pub fn play(t: &[u64], plans: &[u16], ends: &[u64], run: Numbered, picks: &[u8])
     ensures { RunMeans
         (play_on t.now plans.now ends.now (numbered_of run)
         picks.now)
-        (numbered_of run) result.refusal result.run }
+        (numbered_of run) (code result.answer) result.run }
 {
     let mut none: [u64; 1] = [0];
     run_play::play_into(t, plans, ends, run, picks, &mut none)

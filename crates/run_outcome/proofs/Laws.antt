@@ -26,8 +26,10 @@ use Rattle.fault.specs.declared.Fault.{Fault}
 use Rattle.run_pick.specs.Inner.Meaning.{plans_in, pick_in}
 use Rattle.run_pick.specs.Value.{run_of, reply_of, PickMeans}
 use Rattle.run_pick.specs.declared.Run.{Run}
-use Rattle.run_pick.specs.declared.Answer.TheVariants.{Refused, Gives}
-use Rattle.run_pick.specs.declared.Closed.TheVariants.{NotYet, By}
+use Rattle.std.specs.Prelude.{None, Some, Result, Ok, Err}
+use Rattle.std.specs.Result.{is_ok}
+use Rattle.refusal.specs.Number as refusal
+use Rattle.refusal.specs.declared.Refusal.{Refusal}
 use Rattle.run_pick.specs.declared.Reply.{Reply}
 use Rattle.run_pick.specs.declared.Reply.TheVariants.{Go, Collision}
 use Rattle.run_pick.specs.declared.Picked.{Picked}
@@ -37,11 +39,12 @@ use Rattle.run_outcome.specs.Inner.Meaning.{pickable_in, steps_left_in, outcome_
 -- ---- whether a pick is possible
 
 module _ {a : Base.Answer (Paper.Replied (Paper.Run ℕ))} {run : Run} {p : Picked} (m : PickMeans a run p) where
-  pub can_pick_lem : (x : Reply) → p.answer ≡ Gives x → true ≡ given a
-  can_pick_lem x e = rw (means-gives m x e)
-
-  pub cannot_pick : (k : ℕ) → p.answer ≡ Refused k → false ≡ given a
-  cannot_pick k e = rw (means-refused m k e)
+  pub can_pick_lem : (b : Bool) → b ≡ is_ok p.answer → b ≡ given a
+  can_pick_lem b e = e ∙ by_answer p.answer refl
+    where
+      by_answer : (x : Result Reply Refusal) → p.answer ≡ x → is_ok x ≡ given a
+      by_answer (Ok x) q = rw (means-gives m x q)
+      by_answer (Err k) q = rw (means-refused m k q)
 
 -- ---- loops over the members
 
@@ -105,11 +108,11 @@ module _ (t : List ℕ) (g n j : ℕ) (e : n ≡ members t) (r : Rest (missed_in
 -- ---- a run's outcome
 
 module _ (t plans ends : List ℕ) (run : Run) where
-  pub out-closed : (f : Fault) → run.closed ≡ By f → Paper.failure (fault_of f) ≡ outcome_in t plans ends (run_of run)
+  pub out-closed : (f : Fault) → run.closed ≡ Some f → Paper.failure (fault_of f) ≡ outcome_in t plans ends (run_of run)
   unfolding outcome
   out-closed f h = rw h
 
-  module _ (h : run.closed ≡ NotYet) (b : Bool) (q : b ≡ pickable_in t plans ends (run_of run)) where
+  module _ (h : run.closed ≡ None) (b : Bool) (q : b ≡ pickable_in t plans ends (run_of run)) where
     pub out_open : b ≡ true → Paper.still_open ≡ outcome_in t plans ends (run_of run)
     unfolding outcome
     out_open h₁ = rw (← q, h₁, h)
@@ -170,7 +173,7 @@ module _ (t plans ends picks : List ℕ) where
       turn = r.rest ∙ rw (drop-cons picks i 0 h, add-one i)
 
       module _ (p : Picked) (m : PickMeans (pick_in t plans ends (run_of run) (get_or picks i 0)) run p) where
-        pub replay-gives : (x : Reply) → p.answer ≡ Gives x → (d : ℕ) → d ≡ counted k (reply_of x)
+        pub replay-gives : (x : Reply) → p.answer ≡ Ok x → (d : ℕ) → d ≡ counted k (reply_of x)
             → (l : ℕ) → l ≡ lacked_by (reply_of x)
             → Replaying t plans ends picks p.run d l (i + 1)
         replay-gives x e d q l z =
@@ -180,11 +183,13 @@ module _ (t plans ends picks : List ℕ) where
               rest = turn ∙ rw (means-gives m x e, q, z);
             }
 
-        pub replay-refused : (x : ℕ) → p.answer ≡ Refused x → refused x ≡ replay_in t plans ends picks
+        pub replay-refused : (x : Refusal) → p.answer ≡ Err x
+            → refused (refusal.number x) ≡ replay_in t plans ends picks
         unfolding replay_on
         replay-refused x e = sym (turn ∙ rw (means-refused m x e) (at (drop (i + 1) picks)))
           where
-            at : (js : List ℕ) → replay_on_in t plans ends (refused x) k 0 js ≡ refused x
+            at : (js : List ℕ)
+                → replay_on_in t plans ends (refused (refusal.number x)) k 0 js ≡ refused (refusal.number x)
             at [] = refl
             at (j ∷ js) = refl
 

@@ -1,15 +1,14 @@
 -- The paper's values for the structs and for each case of the enums.
-use Rattle.std.specs.Prelude.{ℕ}
+use Rattle.std.specs.Prelude.{ℕ, Result}
 use Rattle.semantics.specs.Base as Base
-use Rattle.semantics.specs.Base.{refused, gives}
 use Rattle.semantics.specs.Run as Paper
+use Rattle.refusal.specs.Number.{answered}
+use Rattle.refusal.specs.declared.Refusal.{Refusal}
 use Rattle.mask.specs.Number.{number, shared_number}
 use Rattle.fault.specs.Value.{fault_of}
 use Rattle.run_outcome.specs.declared.Outcome.{Outcome}
 use Rattle.run_outcome.specs.declared.Outcome.TheVariants as outcome
 use Rattle.run_outcome.specs.declared.Replay.{Replay}
-use Rattle.run_outcome.specs.declared.ReplayAnswer.{ReplayAnswer}
-use Rattle.run_outcome.specs.declared.ReplayAnswer.TheVariants as replayed
 
 abbrev pub outcome_of : Outcome → Paper.Outcome
 outcome_of outcome.Success = Paper.success
@@ -25,6 +24,5 @@ replay_of r =
       missing = number r.missing;
     }
 
-abbrev pub replayed_of : ReplayAnswer → Base.Answer (Paper.Replay ℕ)
-replayed_of (replayed.Refused k) = refused k
-replayed_of (replayed.Gives r) = gives (replay_of r)
+abbrev pub replayed_of : Result Replay Refusal → Base.Answer (Paper.Replay ℕ)
+replayed_of a = answered replay_of a

@@ -5,10 +5,11 @@
 
 ghost use Rattle.std.specs.Prelude.{◌≡◌, ◌+◌, ◌^◌, ◌<◌};
 ghost use Rattle.semantics.specs.Base.{up_to};
-ghost use Rattle.semantics.specs.Task.{check, members};
+ghost use Rattle.semantics.specs.Task.{members};
 ghost use Rattle.semantics.specs.System.{system};
-ghost use Rattle.semantics.specs.Run.{given, counted, lacked_by, missed_in, plans_refusal};
+ghost use Rattle.semantics.specs.Run.{given, counted, lacked_by, missed_in};
 ghost use Rattle.mask.specs.Number.{number, shared_number};
+ghost use Rattle.run_plans.specs.Value.{of_plans};
 ghost use Rattle.run_pick.specs.Inner.Meaning.{pick_in};
 ghost use Rattle.run_pick.specs.Value.{run_of, reply_of};
 ghost use Rattle.run_outcome.specs.Value.{outcome_of, replayed_of};
@@ -17,7 +18,10 @@ ghost use Rattle.run_outcome.specs.Inner.Meaning.{replay_in};
 
 use fault::Fault;
 use mask::{Mask, Shared};
-use run_pick::{Answer, Closed, Reply, Run};
+use refusal::Refusal;
+use run_pick::{Reply, Run};
+use run_plans::Plans;
+use task::Task;
 
 // What a run has come to.
 #[derive(Clone, Copy)]
@@ -37,99 +41,67 @@ pub struct Replay {
     pub missing: Mask,
 }
 
-#[derive(Clone, Copy)]
-pub enum ReplayAnswer {
-    Refused(u64),
-    Gives(Replay),
-}
-
 // ---- a run's outcome
 
 // Member j can be picked.
-fn possible(t: &[u64], plans: &[u16], ends: &[u64], run: Run, j: usize) -> bool
-    requires { plans_refusal t.now plans.now ends.now ≡ 0 }
-    ensures { result
-        ≡ given (pick_in t.now plans.now ends.now
-        (run_of run) j) }
+fn possible(p: &Plans, run: Run, j: usize) -> bool
+    ensures { result ≡ given (of_plans pick_in p.now (run_of run) j) }
 {
-    let p = run_pick::pick(t, plans, ends, run, j);
-    let a = p.answer;
-    match a {
-        Answer::Refused(_) => false,
-        Answer::Gives(_) => true,
-    }
+    run_pick::pick(p, run, j).answer.is_ok()
 }
 
 // Some member can be picked.
-fn pickable(t: &[u64], plans: &[u16], ends: &[u64], run: Run) -> bool
-    requires { plans_refusal t.now plans.now ends.now ≡ 0 }
-    ensures { result
-        ≡ pickable_in t.now plans.now ends.now (run_of run) }
+fn pickable(p: &Plans, run: Run) -> bool
+    ensures { result ≡ of_plans pickable_in p.now (run_of run) }
 {
-    let n = task::members(t);
-    let mut j = 0;
-    while j < n {
-        if possible(t, plans, ends, run, j) {
+    for j in 0..p.task.members() {
+        if possible(p, run, j) {
             return true;
         }
-        j += 1;
     }
     false
 }
 
 // Some member has steps left.
-fn steps_left(t: &[u64], plans: &[u16], ends: &[u64], run: Run) -> bool
-    requires { plans_refusal t.now plans.now ends.now ≡ 0 }
-    ensures { result
-        ≡ steps_left_in t.now plans.now ends.now (run_of run) }
+fn steps_left(p: &Plans, run: Run) -> bool
+    ensures { result ≡ of_plans steps_left_in p.now (run_of run) }
 {
-    let n = task::members(t);
-    let mut j = 0;
-    while j < n {
-        if run_pick::place(t, run, j) < run_plans::steps(t, plans, ends, j) {
+    for j in 0..p.task.members() {
+        if run_pick::place(&p.task, run, j) < p.steps(j) {
             return true;
         }
-        j += 1;
     }
     false
 }
 
 // The lowest member whose goal is not within the shared copy, or success.
-fn missed(t: &[u64], g: Shared) -> Outcome
-    requires { check t.now ≡ 0 }
+fn missed(t: &Task, g: Shared) -> Outcome
     ensures { outcome_of result
-        ≡ missed_in (system t.now) (shared_number g)
-        (up_to (members t.now)) }
+        ≡ missed_in (system t.now.words.now) (shared_number g)
+        (up_to (members t.now.words.now)) }
 {
-    let s = g.0;
-    let n = task::members(t);
-    let mut j = 0;
-    while j < n {
-        if !mask::within(task::goal(t, j), s) {
+    for j in 0..t.members() {
+        if !mask::within(t.goal(j), g.0) {
             return Outcome::Failure(Fault::Missed(j));
         }
-        j += 1;
     }
     Outcome::Success
 }
 
 // What the run has come to.
-pub fn outcome_of(t: &[u64], plans: &[u16], ends: &[u64], run: Run) -> Outcome
-    requires { plans_refusal t.now plans.now ends.now ≡ 0 }
-    ensures { outcome_of result
-        ≡ outcome_in t.now plans.now ends.now (run_of run) }
+pub fn outcome_of(p: &Plans, run: Run) -> Outcome
+    ensures { outcome_of result ≡ of_plans outcome_in p.now (run_of run) }
 {
-    let c = run.closed;
-    if let Closed::By(f) = c {
+    if let Some(f) = run.closed {
         return Outcome::Failure(f);
     }
-    if pickable(t, plans, ends, run) {
+    if pickable(p, run) {
         return Outcome::Open;
     }
-    if steps_left(t, plans, ends, run) {
+    if steps_left(p, run) {
         return Outcome::Failure(Fault::Deadlock);
     }
-    missed(t, run.shared)
+    missed(&p.task, run.shared)
 }
 
 // ---- a list of picks
@@ -157,38 +129,23 @@ fn lacked(r: Reply) -> Mask
 
 // The picks from the start, each meeting the run as the last one left it; the first bad pick is
 // refused.
-pub fn replay_all(t: &[u64], plans: &[u16], ends: &[u64], picks: &[u8]) -> ReplayAnswer
-    requires { plans_refusal t.now plans.now ends.now ≡ 0 }
-    ensures { replayed_of result
-        ≡ replay_in t.now plans.now ends.now
-        picks.now }
+pub fn replay_all(p: &Plans, picks: &[u8]) -> Result<Replay, Refusal>
+    ensures { replayed_of result ≡ of_plans replay_in p.now picks.now }
 {
-    let mut run = run_pick::start(t);
+    let mut run = run_pick::start(&p.task);
     let mut done: usize = 0;
     let mut missing = mask::none();
-    let mut i = 0;
-    while i < picks.len() {
-        let j = picks[i] as usize;
-        i += 1;
-        let p = run_pick::pick(t, plans, ends, run, j);
-        let a = p.answer;
-        match a {
-            Answer::Refused(e) => {
-                return ReplayAnswer::Refused(e);
-            }
-            Answer::Gives(r) => {
-                done = count(done, r);
-                missing = lacked(r);
-            }
-        }
-        run = p.run;
+    for j in picks {
+        let picked = run_pick::pick(p, run, *j as usize);
+        let reply = picked.answer?;
+        done = count(done, reply);
+        missing = lacked(reply);
+        run = picked.run;
     }
-    let o = outcome_of(t, plans, ends, run);
-    let s = run.shared;
-    ReplayAnswer::Gives(Replay {
-        outcome: o,
-        shared: s,
+    Ok(Replay {
+        outcome: outcome_of(p, run),
+        shared: run.shared,
         picked: done,
-        missing: missing,
+        missing,
     })
 }

@@ -16,11 +16,14 @@ use Rattle.semantics.specs.Solo.{entry, solo_from}
 use Rattle.semantics.specs.Run.{beginning, plan_of, ends_fit, is_solves, plan_refusal, plans_refusal}
 use Rattle.theory.proofs.Lists.{and_elim, all_true, mem_up_to, mem-get_d}
 use Rattle.theory.proofs.Loops.{Rest, rest-begin, all-fails, all-onward, all-ends}
-use Rattle.theory.proofs.Refusals.{else_both, if_not-true, up_to_refusal, else_first}
+use Rattle.theory.proofs.Refusals.{else_both, if_not-true, up_to_refusal}
 use Rattle.theory.proofs.Agrees.Solo.{entries-own}
 use Rattle.solo_replay.specs.Value.{solo_of}
 use Rattle.solo_replay.specs.declared.Solo.{Solo}
 use Rattle.solo_replay.specs.declared.Solo.TheVariants.{Solves, Breaks, Short}
+use Rattle.refusal.specs.Number.{number}
+use Rattle.refusal.specs.declared.Refusal.{Refusal}
+use Rattle.refusal.proofs.Laws.{first-refuses}
 use Rattle.run_plans.specs.Inner.Parts.{member_refusal}
 
 pub later : (ends : List ℕ) (j : ℕ) → (j ≡ 0 → ⊥) → get_or ends (j - 1) 0 ≡ beginning ends j
@@ -42,13 +45,14 @@ module _ (n : ℕ) (ends : List ℕ) where
   pub rising : length ends ≡ n → Rising n ends 0
   rising h = record { many = h; rest = rest-begin (all_of (rises ends)) (up_to n) }
 
-  pub rises-there : (j : ℕ) → Rising n ends j → j < n → (b : ℕ) → b ≡ beginning ends j → b ≤ get_or ends j 0
+  pub rises-there : (j : ℕ) → Rising n ends j → j < length ends → (b : ℕ) → b ≡ beginning ends j → b ≤ get_or ends j 0
       → Rising n ends (j + 1)
   rises-there j r h b e l =
       record {
         many = r.many;
         rest =
-            all-onward (rises ends) n j r.rest h (le-leb (beginning ends j) (get_or ends j 0) (omega arith));
+            all-onward (rises ends) n j r.rest (omega (arith, r.many))
+            (le-leb (beginning ends j) (get_or ends j 0) (omega arith));
       }
 
 module _ (n : ℕ) (plans ends : List ℕ) where
@@ -57,16 +61,18 @@ module _ (n : ℕ) (plans ends : List ℕ) where
   wrong_number h = rw (ne_eqb (length ends) n h)
 
   module _ (j : ℕ) (r : Rising n ends j) where
-    pub falls-there : j < n → (b : ℕ) → b ≡ beginning ends j → get_or ends j 0 < b → false ≡ ends_fit n plans ends
+    pub falls-there : j < length ends → (b : ℕ) → b ≡ beginning ends j → get_or ends j 0 < b
+        → false ≡ ends_fit n plans ends
     unfolding ends_fit
     falls-there h b e l =
         let f : all_of (rises ends) (up_to n) ≡ false =
-        all-fails (rises ends) n j r.rest h (lt-leb (beginning ends j) (get_or ends j 0) (omega arith)) in
+        all-fails (rises ends) n j r.rest (omega (arith, r.many))
+        (lt-leb (beginning ends j) (get_or ends j 0) (omega arith)) in
         rw (eq-eqb (length ends) n r.many, f)
 
-    pub last_end : n ≤ j → (b : ℕ) → b ≡ beginning ends n → eqb b (length plans) ≡ ends_fit n plans ends
+    pub last_end : length ends ≤ j → (b : ℕ) → b ≡ beginning ends n → eqb b (length plans) ≡ ends_fit n plans ends
     unfolding ends_fit
-    last_end h b e = rw (eq-eqb (length ends) n r.many, all-ends (rises ends) n j r.rest h, e)
+    last_end h b e = rw (eq-eqb (length ends) n r.many, all-ends (rises ends) n j r.rest (omega (arith, r.many)), e)
 
 -- ---- a member's part of the plan slice
 
@@ -118,10 +124,14 @@ part-refusal t plans ends j r b e l k = k ∙ ap (plan_refusal t j) (part_slice 
 
 -- ---- a member's plan
 
-module _ (t : List ℕ) (j : ℕ) (plan : List ℕ) (e : ℕ) (k : e ≡ first_refusal (entry t j) plan) (h : e ≡ 0) (s : Solo)
+pub plan-refused : (t : List ℕ) (j : ℕ) (plan : List ℕ) (e : Refusal) → number e ≡ first_refusal (entry t j) plan
+    → number e ≡ plan_refusal t j plan
+plan-refused t j plan e k = first-refuses e (first_refusal (entry t j) plan) _ k
+
+module _ (t : List ℕ) (j : ℕ) (plan : List ℕ) (k : 0 ≡ first_refusal (entry t j) plan) (s : Solo)
     (q : solo_of s ≡ solo_from (system t) j 0 (initial t) plan) where
   comes_to : plan_refusal t j plan ≡ (12 if not (is_solves (solo_of s)))
-  comes_to = rw (← k, h, ← q)
+  comes_to = rw (← k, ← q)
 
   pub plan-solves : s ≡ Solves → 0 ≡ plan_refusal t j plan
   plan-solves h₁ = sym (comes_to ∙ rw h₁)
@@ -134,24 +144,34 @@ module _ (t : List ℕ) (j : ℕ) (plan : List ℕ) (e : ℕ) (k : e ≡ first_r
 
 -- ---- the plans' check
 
-module _ (t plans ends : List ℕ) (e : ℕ) (k : e ≡ check t) where
-  pub refuses-task : (e ≡ 0 → ⊥) → e ≡ plans_refusal t plans ends
+module _ (t plans ends : List ℕ) where
+  pub refuses-task : (e : Refusal) → number e ≡ check t → number e ≡ plans_refusal t plans ends
   unfolding plans_refusal
-  refuses-task h = k ∙ else_first (check t) _ (λ z. h (k ∙ z))
+  refuses-task e k = first-refuses e (check t) _ k
 
-  module _ (h : e ≡ 0) (n : ℕ) (k₁ : n ≡ members t) (b : Bool) (k₂ : b ≡ ends_fit n plans ends) where
-    pub refuses-ends : not b ≡ true → 11 ≡ plans_refusal t plans ends
-    unfolding plans_refusal
-    refuses-ends h₁ = rw (← k, h, ← k₁, ← k₂, h₁)
+-- the words of the accepted task are those that are checked
+module _ (own plans ends : List ℕ) (k : check own ≡ 0) (n : ℕ) (k₁ : n ≡ members own) (b : Bool)
+    (k₂ : b ≡ ends_fit n plans ends) where
+  pub refuses-ends : not b ≡ true → (t : List ℕ) → own ≡ t → 11 ≡ plans_refusal t plans ends
+  unfolding plans_refusal
+  refuses-ends h t same = rw (← same, k, ← k₁, ← k₂, h)
 
-    pub refuses-plans : not b ≡ false → (r : ℕ) → r ≡ first_refusal (member_refusal t plans ends) (up_to (members t))
-        → r ≡ plans_refusal t plans ends
-    unfolding plans_refusal
-    refuses-plans h₁ r q = rw (← k, h, ← k₁, ← k₂, h₁) (rw k₁ q)
+  own-plans : not b ≡ false → (r : ℕ) → r ≡ first_refusal (member_refusal own plans ends) (up_to (members own))
+      → r ≡ plans_refusal own plans ends
+  unfolding plans_refusal
+  own-plans h r q = rw (k, ← k₁, ← k₂, h) (rw k₁ q)
+
+  pub refuses-plans : not b ≡ false → (r : ℕ) → r ≡ first_refusal (member_refusal own plans ends) (up_to (members own))
+      → (t : List ℕ) → own ≡ t → r ≡ plans_refusal t plans ends
+  refuses-plans h r q t same = rw (← same) (own-plans h r q)
+
+  pub plans-accepted : not b ≡ false → 0 ≡ first_refusal (member_refusal own plans ends) (up_to (members own))
+      → plans_refusal own plans ends ≡ 0
+  plans-accepted h q = sym (own-plans h 0 q)
 
 -- where the ends are not refused they fit
-pub fits-there : (t plans ends : List ℕ) (n : ℕ) → n ≡ members t → (b : Bool) → b ≡ ends_fit n plans ends → not b ≡ false
-    → ends_fit (members t) plans ends ≡ true
+pub fits-there : (t plans ends : List ℕ) (n : ℕ) → n ≡ members t → (b : Bool) → b ≡ ends_fit n plans ends
+    → not b ≡ false → ends_fit (members t) plans ends ≡ true
 fits-there t plans ends n k b e h = rw (← k) (sym e ∙ not-false b h)
 
 -- ---- checked plans

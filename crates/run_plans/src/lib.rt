@@ -1,15 +1,18 @@
 // The plans' check: one solving plan for each member in one slice, with the ends of the plans in
-// it; and readers of checked plans.
+// it; and checked plans.
 
 #![tactic(auto)]
 
-ghost use Rattle.std.specs.Prelude.{◌≡◌, true, ◌≤◌, ◌<◌, length, get_or};
+ghost use Rattle.std.specs.Prelude.{◌≡◌, true, ◌≤◌, ◌<◌, length, get_or, IfOk};
 ghost use Rattle.semantics.specs.Base.{up_to, first_refusal};
-ghost use Rattle.semantics.specs.Task.{check, members, actions};
+ghost use Rattle.semantics.specs.Task.{members, actions};
 ghost use Rattle.semantics.specs.Run.{beginning, plan_of, ends_fit, plan_refusal, plans_refusal};
+ghost use Rattle.refusal.specs.Number.{code};
 ghost use Rattle.run_plans.specs.Inner.Parts.{member_refusal};
 
+use refusal::Refusal;
 use solo_replay::Solo;
+use task::Task;
 
 // Where member j's plan begins.
 pub fn beginning(ends: &[u64], j: usize) -> u64
@@ -29,40 +32,32 @@ fn ends_fit(n: usize, plans: &[u16], ends: &[u64]) -> bool
     if ends.len() != n {
         return false;
     }
-    let mut j = 0;
-    while j < n {
-        if ends[j] < beginning(ends, j) {
+    for (j, end) in ends.iter().enumerate() {
+        if *end < beginning(ends, j) {
             return false;
         }
-        j += 1;
     }
     beginning(ends, n) == plans.len() as u64
 }
 
-// Member j's plan: 7 or 10 at its first bad entry, 12 it does not solve.
-fn plan_refusal(t: &[u64], j: usize, plan: &[u16]) -> u64
-    requires t_value { check t.now ≡ 0 }
-    requires j_bound { j < members t.now }
-    ensures { result ≡ plan_refusal t.now j plan.now }
+// Member j's plan: refused at its first bad entry, or where it does not solve.
+fn plan_refusal(t: &Task, j: usize, plan: &[u16]) -> Result<(), Refusal>
+    requires { j < members t.now.words.now }
+    ensures { code result ≡ plan_refusal t.now.words.now j plan.now }
 {
-    let e = solo_replay::plan_refusal(t, j, plan);
-    if e != 0 {
-        return e;
-    }
+    solo_replay::plan_refusal(t, j, plan)?;
     match solo_replay::replay(t, j, plan) {
-        Solo::Solves => 0,
-        Solo::Breaks(_) => 12,
-        Solo::Short => 12,
+        Solo::Solves => Ok(()),
+        Solo::Breaks(_) => Err(Refusal::NoSolution),
+        Solo::Short => Err(Refusal::NoSolution),
     }
 }
 
 // The same of the part of the plan slice that is member j's.
-fn member_refusal(t: &[u64], plans: &[u16], ends: &[u64], j: usize) -> u64
-    requires t_value { check t.now ≡ 0 }
-    requires ends_value { ends_fit (members t.now) plans.now ends.now ≡ true }
-    requires j_bound { j < members t.now }
-    ensures { result
-        ≡ member_refusal t.now plans.now ends.now j }
+fn member_refusal(t: &Task, plans: &[u16], ends: &[u64], j: usize) -> Result<(), Refusal>
+    requires ends_value { ends_fit (members t.now.words.now) plans.now ends.now ≡ true }
+    requires j_bound { j < members t.now.words.now }
+    ensures { code result ≡ member_refusal t.now.words.now plans.now ends.now j }
 {
     let from = beginning(ends, j) as usize;
     let to = ends[j] as usize;
@@ -70,59 +65,59 @@ fn member_refusal(t: &[u64], plans: &[u16], ends: &[u64], j: usize) -> u64
 }
 
 // The first refusal of a member's plan.
-fn members_refusal(t: &[u64], plans: &[u16], ends: &[u64]) -> u64
-    requires t_value { check t.now ≡ 0 }
-    requires ends_value { ends_fit (members t.now) plans.now ends.now ≡ true }
-    ensures { result
-        ≡ first_refusal (member_refusal t.now plans.now ends.now)
-        (up_to (members t.now)) }
+fn members_refusal(t: &Task, plans: &[u16], ends: &[u64]) -> Result<(), Refusal>
+    requires { ends_fit (members t.now.words.now) plans.now ends.now ≡ true }
+    ensures { code result
+        ≡ first_refusal (member_refusal t.now.words.now plans.now ends.now)
+        (up_to (members t.now.words.now)) }
 {
-    let n = task::members(t);
-    let mut j = 0;
-    while j < n {
-        let r = member_refusal(t, plans, ends, j);
-        if r != 0 {
-            return r;
-        }
-        j += 1;
+    for j in 0..t.members() {
+        member_refusal(t, plans, ends, j)?;
     }
-    0
+    Ok(())
+}
+
+// An accepted task with checked plans: a solving plan for each member, in one slice, and where they
+// end in it.
+#[derive(Clone, Copy)]
+pub struct Plans<'a> {
+    pub task: Task<'a>,
+    pub plans: &'a [u16],
+    pub ends: &'a [u64],
+    pub ghost accepted: { plans_refusal task.words.now plans.now ends.now ≡ 0 },
 }
 
 // The plans' check, for every input; it starts with the task check.
-pub fn refusal(t: &[u64], plans: &[u16], ends: &[u64]) -> u64
-    ensures { result ≡ plans_refusal t.now plans.now ends.now }
+pub fn check<'a>(t: &'a [u64], plans: &'a [u16], ends: &'a [u64]) -> Result<Plans<'a>, Refusal>
+    ensures refusal { code result ≡ plans_refusal t.now plans.now ends.now }
+    ensures holds { IfOk result
+        (λ p. (p.task.words.now ≡ t.now) × (p.plans.now ≡ plans.now) × (p.ends.now ≡ ends.now)) }
 {
-    let c = task::check(t);
-    if c != 0 {
-        return c;
+    let task = task::check(t)?;
+    if !ends_fit(task.members(), plans, ends) {
+        return Err(Refusal::Ends);
     }
-    if !ends_fit(task::members(t), plans, ends) {
-        return 11;
-    }
-    members_refusal(t, plans, ends)
+    members_refusal(&task, plans, ends)?;
+    Ok(Plans { task, plans, ends })
 }
 
-// ---- readers of checked plans
+impl<'a> Plans<'a> {
+    // The number of steps in member j's plan.
+    pub fn steps(&self, j: usize) -> u64
+        requires { j < members self.now.task.words.now }
+        ensures { result ≡ length (plan_of self.now.plans.now self.now.ends.now j) }
+    {
+        self.ends[j] - beginning(self.ends, j)
+    }
 
-// The number of steps in member j's plan.
-pub fn steps(t: &[u64], plans: &[u16], ends: &[u64], j: usize) -> u64
-    requires ends_value { plans_refusal t.now plans.now ends.now ≡ 0 }
-    requires j_bound { j < members t.now }
-    ensures { result ≡ length (plan_of plans.now ends.now j) }
-{
-    let from = beginning(ends, j);
-    ends[j] - from
-}
-
-// Step k of member j's plan: an action.
-pub fn action(t: &[u64], plans: &[u16], ends: &[u64], j: usize, k: u64) -> usize
-    requires ends_value { plans_refusal t.now plans.now ends.now ≡ 0 }
-    requires j_bound { j < members t.now }
-    requires k_in_bounds { k < length (plan_of plans.now ends.now j) }
-    ensures value { result ≡ get_or (plan_of plans.now ends.now j) k 0 }
-    ensures upper_bound { result < actions t.now }
-{
-    let at = (beginning(ends, j) + k) as usize;
-    plans[at] as usize
+    // Step k of member j's plan: an action.
+    pub fn action(&self, j: usize, k: u64) -> usize
+        requires j_bound { j < members self.now.task.words.now }
+        requires k_in_bounds { k < length (plan_of self.now.plans.now self.now.ends.now j) }
+        ensures value { result ≡ get_or (plan_of self.now.plans.now self.now.ends.now j) k 0 }
+        ensures upper_bound { result < actions self.now.task.words.now }
+    {
+        let at = (beginning(self.ends, j) + k) as usize;
+        self.plans[at] as usize
+    }
 }

@@ -10,6 +10,13 @@ use borrow.Author.Tests.{lt-ltb, le-ltb}
 use Rattle.semantics.specs.Base.{◌leaves◌otherwise◌}
 use Rattle.semantics.specs.Run.{run_refusal}
 use Rattle.semantics.specs.Dispatch.{play_numbered}
+use Rattle.std.specs.Prelude.{Ok, Err}
+use Rattle.refusal.specs.Number.{number}
+use Rattle.refusal.specs.declared.Refusal.{Refusal}
+use Rattle.refusal.specs.declared.Refusal.TheVariants as refusal
+use Rattle.refusal.proofs.Laws.{number-positive}
+use Rattle.run_plans.specs.Value.{Holds, of_plans}
+use Rattle.run_plans.specs.declared.Plans.{Plans}
 use Rattle.run_pick.specs.Value.{run_of, answer_of, replies}
 use Rattle.run_ticket.specs.Value.{numbered_of, DispatchMeans}
 use Rattle.run_ticket.specs.declared.Numbered.{Numbered}
@@ -104,36 +111,41 @@ module _ (t plans ends picks before : List ℕ) (run : Numbered) where
   abbrev Means : ℕ → Played → List ℕ → Type 0
   Means refuses p after = PlayMeans t plans ends refuses (numbered_of run) picks before p after
 
-  as_it_was : (refuses e : ℕ) → e ≡ refuses → (e ≡ 0 → ⊥) → Means refuses (record { refusal = e; run = run }) before
-  as_it_was refuses e is h =
-      let some : refuses ≡ 0 → ⊥ = λ z. h (is ∙ z) in
+  as_it_was : (refuses : ℕ) (e : Refusal) → number e ≡ refuses
+      → Means refuses (record { answer = Err e; run = run }) before
+  as_it_was refuses e is =
+      let some : refuses ≡ 0 → ⊥ = λ z. omega (arith, number-positive e) in
       record {
         refusal = is;
         run = leaves-some refuses (numbered_of run) (play_from t plans ends (numbered_of run) picks) some;
         answers = leaves-some refuses before (answered t plans ends (numbered_of run) picks before) some;
       }
 
-  module _ (e : ℕ) (is : e ≡ run_refusal t plans ends (run_of run.run)) where
-    pub into-refused : (e ≡ 0 → ⊥)
-        → Means (run_refusal t plans ends (run_of run.run)) (record { refusal = e; run = run }) before
-    into-refused h = as_it_was (run_refusal t plans ends (run_of run.run)) e is h
+  pub into-refused : (e : Refusal) → number e ≡ run_refusal t plans ends (run_of run.run)
+      → Means (run_refusal t plans ends (run_of run.run)) (record { answer = Err e; run = run }) before
+  into-refused e is = as_it_was (run_refusal t plans ends (run_of run.run)) e is
 
-    pub into-given : e ≡ 0 → (last : Numbered) (after : List ℕ) → AllMean t plans ends (numbered_of run) picks before last after
-        → Means (run_refusal t plans ends (run_of run.run)) (record { refusal = 0; run = last }) after
-    into-given z last after m =
-        let refuses = run_refusal t plans ends (run_of run.run) in
-        let none : refuses ≡ 0 = sym is ∙ z in
-        record {
-          refusal = sym none;
-          run = m.played ∙ leaves_none refuses (numbered_of run) (play_from t plans ends (numbered_of run) picks) none;
-          answers = m.answers ∙ leaves_none refuses before (answered t plans ends (numbered_of run) picks before) none;
-        }
+  pub into-given : 0 ≡ run_refusal t plans ends (run_of run.run) → (p : Plans) → Holds t plans ends p
+      → (last : Numbered) (after : List ℕ) → of_plans AllMean p (numbered_of run) picks before last after
+      → Means (run_refusal t plans ends (run_of run.run)) (record { answer = Ok tt; run = last }) after
+  into-given z p s last after m =
+      let refuses = run_refusal t plans ends (run_of run.run) in
+      let its : AllMean t plans ends (numbered_of run) picks before last after = rw (← s.0, ← s.1, ← s.2) m in
+      let played = play_from t plans ends (numbered_of run) picks in
+      record {
+        refusal = z;
+        run = its.played ∙ leaves_none refuses (numbered_of run) played (sym z);
+        answers =
+            its.answers
+            ∙ leaves_none refuses before (answered t plans ends (numbered_of run) picks before) (sym z);
+      }
 
   pub play-short : length before < length picks
-      → Means (play_refusal t plans ends (numbered_of run) picks before) (record { refusal = 14; run = run }) before
+      → Means (play_refusal t plans ends (numbered_of run) picks before)
+      (record { answer = Err refusal.Short; run = run }) before
   play-short h =
-      as_it_was (play_refusal t plans ends (numbered_of run) picks before) 14
-      (rw (lt-ltb (length before) (length picks) h)) (λ z. omega arith)
+      as_it_was (play_refusal t plans ends (numbered_of run) picks before) refusal.Short
+      (rw (lt-ltb (length before) (length picks) h))
 
   pub play-fits : length picks ≤ length before → (p : Played) (after : List ℕ)
       → Means (run_refusal t plans ends (run_of run.run)) p after

@@ -7,6 +7,7 @@ use Rattle.semantics.specs.System.{system, waits}
 use Rattle.semantics.specs.Run as Paper
 use Rattle.semantics.specs.Run.{pass_over, pick, plans_of, run_refusal}
 use Rattle.semantics.specs.Dispatch.{Numbered, counts, play_numbered}
+use Rattle.refusal.specs.Number.{code}
 use Rattle.run_pick.specs.Value.{replies}
 use Rattle.run_ticket.specs.Value.{numbered_of}
 use Rattle.run_play.specs.declared.Played.{Played}
@@ -46,6 +47,6 @@ module _ (t plans ends : List ℕ) where
   -- refused with this number, where there is one: the run and the slice are then as they were
   pub record PlayMeans (refuses : ℕ) (d : Numbered ℕ) (picks before : List ℕ) (p : Played)
       (after : List ℕ) : Type 0 where
-    pub refusal : p.refusal ≡ refuses
+    pub refusal : code p.answer ≡ refuses
     pub run : numbered_of p.run ≡ (refuses leaves (λ k. d) otherwise play_from d picks)
     pub answers : after ≡ (refuses leaves (λ k. before) otherwise answered d picks before)

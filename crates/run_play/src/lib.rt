@@ -4,37 +4,40 @@
 #![tactic(auto)]
 
 ghost use Rattle.std.specs.Prelude.{◌≡◌, set};
-ghost use Rattle.semantics.specs.Run.{plans_refusal, run_refusal};
+ghost use Rattle.semantics.specs.Run.{run_refusal};
+ghost use Rattle.run_plans.specs.Value.{of_plans};
 ghost use Rattle.run_pick.specs.Value.{run_of, answer_of};
 ghost use Rattle.run_ticket.specs.Value.{numbered_of};
 ghost use Rattle.run_play.specs.Value.{number_in, play_refusal, PlayMeans};
 ghost use Rattle.run_play.specs.Inner.Play.{AllMean};
 
+use refusal::Refusal;
 use run_pick::{Answer, Reply};
+use run_plans::Plans;
 use run_ticket::Numbered;
 
-// The refusal, 0 where there is none, and the run after the picks: as it was where there is a
-// refusal.
+// Whether the picks are refused, and the run after them: as it was where they are, which the
+// contract says, so it stands beside the `Result`.
 #[derive(Clone, Copy)]
 pub struct Played {
-    pub refusal: u64,
+    pub answer: Result<(), Refusal>,
     pub run: Numbered,
 }
 
-// A pick's answer as a number: 0 go, 1 collision, else the refusal.
+// A pick's answer as a number: 0 go, 1 collision, else the refusal. The lent slice of answers holds
+// numbers, as at the C interface.
 fn number(a: Answer) -> u64
     ensures { result ≡ number_in (answer_of a) }
 {
     match a {
-        Answer::Refused(k) => k,
-        Answer::Gives(r) => match r {
-            Reply::Go => 0,
-            Reply::Collision(_) => 1,
-        },
+        Ok(Reply::Go) => 0,
+        Ok(Reply::Collision(_)) => 1,
+        Err(e) => u64::from(e),
     }
 }
 
-// The answer of pick k, where the slice holds so many.
+// The answer of pick k, where the slice holds so many. By an index: the contract of `get_mut` does
+// not say what the slice holds after the write.
 fn put(answers: &mut [u64], k: usize, v: u64)
     ensures { answers.new ≡ set answers.old k v }
 {
@@ -44,27 +47,15 @@ fn put(answers: &mut [u64], k: usize, v: u64)
 }
 
 // The picks in turn, each meeting the run as the last one left it; impossible ones are passed over.
-fn play_all(
-    t: &[u64],
-    plans: &[u16],
-    ends: &[u64],
-    run: Numbered,
-    picks: &[u8],
-    answers: &mut [u64],
-) -> Numbered
-    requires { plans_refusal t.now plans.now ends.now ≡ 0 }
-    ensures { AllMean t.now plans.now ends.now
-        (numbered_of run) picks.now
+fn play_all(p: &Plans, run: Numbered, picks: &[u8], answers: &mut [u64]) -> Numbered
+    ensures { of_plans AllMean p.now (numbered_of run) picks.now
         answers.old result answers.new }
 {
     let mut current = run;
-    let mut k = 0;
-    while k < picks.len() {
-        let p = run_ticket::pick_checked(t, plans, ends, current, picks[k] as usize);
-        let a = p.answer;
-        put(answers, k, number(a));
-        current = p.run;
-        k += 1;
+    for (k, j) in picks.iter().enumerate() {
+        let d = run_ticket::pick_checked(p, current, *j as usize);
+        put(answers, k, number(d.answer));
+        current = d.run;
     }
     current
 }
@@ -83,17 +74,15 @@ pub fn play_into(
         (run_refusal t.now plans.now ends.now (run_of run.run))
         (numbered_of run) picks.now answers.old result answers.new }
 {
-    let e = run_replay::refusal(t, plans, ends, run.run);
-    if e != 0 {
-        return Played {
-            refusal: e,
-            run: run,
-        };
-    }
-    let last = play_all(t, plans, ends, run, picks, answers);
-    Played {
-        refusal: 0,
-        run: last,
+    match run_replay::check(t, plans, ends, run.run) {
+        Err(e) => Played {
+            answer: Err(e),
+            run,
+        },
+        Ok(p) => Played {
+            answer: Ok(()),
+            run: play_all(&p, run, picks, answers),
+        },
     }
 }
 
@@ -114,8 +103,8 @@ pub fn play(
 {
     if answers.len() < picks.len() {
         return Played {
-            refusal: 14,
-            run: run,
+            answer: Err(Refusal::Short),
+            run,
         };
     }
     play_into(t, plans, ends, run, picks, answers)

@@ -2,42 +2,45 @@
 
 #![tactic(auto)]
 
-ghost use Rattle.std.specs.Prelude.{◌≡◌};
+ghost use Rattle.std.specs.Prelude.{◌≡◌, IfOk};
 ghost use Rattle.semantics.specs.Run.{joint_replay, run_refusal};
+ghost use Rattle.refusal.specs.Number.{code};
+ghost use Rattle.run_plans.specs.Value.{Holds};
 ghost use Rattle.run_pick.specs.Value.{run_of};
 ghost use Rattle.run_outcome.specs.Value.{replayed_of};
 
-use run_outcome::ReplayAnswer;
+use refusal::Refusal;
+use run_outcome::Replay;
 use run_pick::Run;
+use run_plans::Plans;
 
 // Joint replay, for every input.
-pub fn joint_replay(t: &[u64], plans: &[u16], ends: &[u64], picks: &[u8]) -> ReplayAnswer
+pub fn joint_replay(t: &[u64], plans: &[u16], ends: &[u64], picks: &[u8]) -> Result<Replay, Refusal>
     ensures { replayed_of result
         ≡ joint_replay t.now plans.now ends.now
         picks.now }
 {
-    let e = run_plans::refusal(t, plans, ends);
-    if e != 0 {
-        return ReplayAnswer::Refused(e);
-    }
-    run_outcome::replay_all(t, plans, ends, picks)
+    let p = run_plans::check(t, plans, ends)?;
+    run_outcome::replay_all(&p, picks)
 }
 
 // The check of a run that is handed in, for every input; it starts with the plans' check.
-pub fn refusal(t: &[u64], plans: &[u16], ends: &[u64], run: Run) -> u64
-    ensures { result
+pub fn check<'a>(
+    t: &'a [u64],
+    plans: &'a [u16],
+    ends: &'a [u64],
+    run: Run,
+) -> Result<Plans<'a>, Refusal>
+    ensures refusal { code result
         ≡ run_refusal t.now plans.now ends.now (run_of run) }
+    ensures holds { IfOk result (λ p. Holds t.now plans.now ends.now p) }
 {
-    let p = run_plans::refusal(t, plans, ends);
-    if p != 0 {
-        return p;
+    let p = run_plans::check(t, plans, ends)?;
+    if !mask::below(p.task.facts(), run.shared.0) {
+        return Err(Refusal::Fact);
     }
-    let g = run.shared;
-    if !mask::below(task::facts(t), g.0) {
-        return 4;
+    if run_pick::past_end(&p, run) {
+        return Err(Refusal::Ends);
     }
-    if run_pick::past_end(t, plans, ends, run) {
-        return 11;
-    }
-    0
+    Ok(p)
 }

@@ -2,17 +2,20 @@
 
 #![tactic(auto)]
 
-ghost use Rattle.std.specs.Prelude.{◌≡◌, not, ◌+◌, ◌<◌, eqb};
-ghost use Rattle.semantics.specs.Base.{refused, unless, ◌if◌, ◌else◌};
-ghost use Rattle.semantics.specs.Run.{plans_refusal};
-ghost use Rattle.semantics.specs.Dispatch.{last_change, counts, pick_numbered, ask_on, commit_on};
+ghost use Rattle.std.specs.Prelude.{◌≡◌, not, eqb};
+ghost use Rattle.semantics.specs.Base.{refused, unless, ◌if◌};
+ghost use Rattle.semantics.specs.Dispatch.{counts, pick_numbered, ask_on, commit_on};
+ghost use Rattle.refusal.specs.Number.{number};
+ghost use Rattle.run_plans.specs.Value.{of_plans};
 ghost use Rattle.run_pick.specs.Inner.Meaning.{pick_in};
 ghost use Rattle.run_pick.specs.Value.{run_of};
-ghost use Rattle.run_ticket.specs.Value.{numbered_of, ticket_of, asked_of, refusal_in, picked_of};
+ghost use Rattle.run_ticket.specs.Value.{numbered_of, ticket_of, asked_of, picked_of};
 ghost use Rattle.run_ticket.specs.Value.{DispatchMeans};
 
-use run_pick::{Answer, Picked, Reply, Run};
-use step::{Decision, Stepped};
+use refusal::Refusal;
+use run_pick::{Answer, Picked, Run};
+use run_plans::Plans;
+use step::Decision;
 
 // A run with its change number: how many picks were done on it, a colliding one too.
 #[derive(Clone, Copy)]
@@ -28,14 +31,14 @@ pub struct Ticket {
     pub change: u32,
 }
 
-// What an ask answers.
+// What an ask that is not refused answers: what the pick would meet, and a ticket for it.
 #[derive(Clone, Copy)]
-pub enum AskAnswer {
-    Refused(u64),
-    Gives(Decision, Ticket),
+pub struct Asked {
+    pub decision: Decision,
+    pub ticket: Ticket,
 }
 
-// What a pick or a commit answers, with the run after it.
+// What a pick or a commit answers, with the run after it, where it is refused too.
 #[derive(Clone, Copy)]
 pub struct Dispatched {
     pub answer: Answer,
@@ -43,73 +46,52 @@ pub struct Dispatched {
 }
 
 // The change number at which no pick is done.
-const LAST_CHANGE: u32 = 4294967295;
+const LAST_CHANGE: u32 = u32::MAX;
 
 // ---- what a pick makes of the change number
 
-// A pick or a commit that is refused with k; it changes nothing.
-fn refuse(at: Numbered, k: u64) -> Dispatched
-    ensures { DispatchMeans (refused k) at result }
+// A pick or a commit that is refused; it changes nothing.
+fn refuse(at: Numbered, e: Refusal) -> Dispatched
+    ensures { DispatchMeans (refused (number e)) at result }
 {
     Dispatched {
-        answer: Answer::Refused(k),
+        answer: Err(e),
         run: at,
     }
 }
 
-// The change number after a pick that was done: a colliding one counts too.
-fn next_change(change: u32, r: Reply) -> u32
-    requires { change < last_change }
-    ensures { result ≡ change + 1 }
-{
-    match r {
-        Reply::Go => change + 1,
-        Reply::Collision(_) => change + 1,
-    }
-}
-
-// What a pick's answer makes of the run: 20 at the last change number, else one more pick is done.
+// What a pick's answer makes of the run: 20 at the last change number, else one more pick is done,
+// a colliding one too.
 fn count(at: Numbered, p: Picked) -> Dispatched
     ensures { DispatchMeans (counts (numbered_of at) (picked_of p)) at result }
 {
-    let a = p.answer;
-    let change = at.change;
-    let after = p.run;
-    match a {
-        Answer::Refused(k) => refuse(at, k),
-        Answer::Gives(r) => {
-            if change == LAST_CHANGE {
-                return Dispatched {
-                    answer: Answer::Refused(20),
-                    run: at,
-                };
+    match p.answer {
+        Err(impossible) => refuse(at, impossible),
+        Ok(r) => {
+            if at.change == LAST_CHANGE {
+                return refuse(at, Refusal::Changes);
             }
-            let next = next_change(change, r);
-            let run = Numbered {
-                run: after,
-                change: next,
-            };
             Dispatched {
-                answer: Answer::Gives(r),
-                run: run,
+                answer: Ok(r),
+                run: Numbered {
+                    run: p.run,
+                    change: at.change + 1,
+                },
             }
         }
     }
 }
 
 // A pick of member j, where the plans are checked.
-pub fn pick_checked(t: &[u64], plans: &[u16], ends: &[u64], at: Numbered, j: usize) -> Dispatched
-    requires { plans_refusal t.now plans.now ends.now ≡ 0 }
+pub fn pick_checked(p: &Plans, at: Numbered, j: usize) -> Dispatched
     ensures { DispatchMeans
-        (counts (numbered_of at)
-        (pick_in t.now plans.now ends.now
-        (run_of at.run) j)) at result }
+        (counts (numbered_of at) (of_plans pick_in p.now (run_of at.run) j)) at result }
 {
-    let p = run_pick::pick(t, plans, ends, at.run, j);
-    count(at, p)
+    count(at, run_pick::pick(p, at.run, j))
 }
 
-// ---- the operations, for every input; any run may be handed in
+// ---- the operations, for every input; any run may be handed in. They take the slices that the C
+// interface lends.
 
 // A pick of a member.
 pub fn pick(t: &[u64], plans: &[u16], ends: &[u64], at: Numbered, member: u8) -> Dispatched
@@ -117,64 +99,33 @@ pub fn pick(t: &[u64], plans: &[u16], ends: &[u64], at: Numbered, member: u8) ->
         (pick_numbered t.now plans.now ends.now
         (numbered_of at) member) at result }
 {
-    let run = at.run;
-    let e = run_replay::refusal(t, plans, ends, run);
-    if e != 0 {
-        return refuse(at, e);
+    match run_replay::check(t, plans, ends, at.run) {
+        Err(e) => refuse(at, e),
+        Ok(p) => pick_checked(&p, at, member as usize),
     }
-    pick_checked(t, plans, ends, at, member as usize)
 }
 
 // What a pick of the member would meet, and a ticket for it. The run is not lent to be changed.
-pub fn ask(t: &[u64], plans: &[u16], ends: &[u64], at: Numbered, member: u8) -> AskAnswer
+pub fn ask(
+    t: &[u64],
+    plans: &[u16],
+    ends: &[u64],
+    at: Numbered,
+    member: u8,
+) -> Result<Asked, Refusal>
     ensures { asked_of result
         ≡ ask_on t.now plans.now ends.now
         (numbered_of at) member }
 {
-    let run = at.run;
-    let e = run_replay::refusal(t, plans, ends, run);
-    if e != 0 {
-        return AskAnswer::Refused(e);
-    }
-    let ticket = Ticket {
-        member: member,
-        change: at.change,
-    };
-    let s = run_pick::next_step(t, plans, ends, run, member as usize);
-    match s {
-        Stepped::Refused(k) => AskAnswer::Refused(k),
-        Stepped::Gives(d) => AskAnswer::Gives(d, ticket),
-    }
-}
-
-// The first of two refusals, 0 where there is none.
-fn first(a: u64, b: u64) -> u64
-    ensures { result ≡ (a else b) }
-{
-    if a != 0 {
-        return a;
-    }
-    b
-}
-
-// 19 for a ticket whose change number is not the run's.
-fn stale(at: Numbered, ticket: Ticket) -> u64
-    ensures { result ≡ (19 if not (eqb ticket.change at.change)) }
-{
-    if ticket.change != at.change {
-        return 19;
-    }
-    0
-}
-
-// A pick's refusal, 0 where it is done.
-fn refusal_of(a: Answer) -> u64
-    ensures { result ≡ refusal_in a }
-{
-    match a {
-        Answer::Refused(k) => k,
-        Answer::Gives(_) => 0,
-    }
+    let p = run_replay::check(t, plans, ends, at.run)?;
+    let decision = run_pick::next_step(&p, at.run, member as usize)?;
+    Ok(Asked {
+        decision,
+        ticket: Ticket {
+            member,
+            change: at.change,
+        },
+    })
 }
 
 // The ticket's pick p: where the ticket is stale, that comes before what p is refused for.
@@ -183,12 +134,8 @@ fn settle(at: Numbered, ticket: Ticket, p: Picked) -> Dispatched
         (unless (19 if not (eqb ticket.change at.change))
         (counts (numbered_of at) (picked_of p))) at result }
 {
-    let late = stale(at, ticket);
-    let a = p.answer;
-    let impossible = refusal_of(a);
-    let e = first(late, impossible);
-    if e != 0 {
-        return refuse(at, e);
+    if ticket.change != at.change {
+        return refuse(at, Refusal::Stale);
     }
     count(at, p)
 }
@@ -199,15 +146,13 @@ pub fn commit(t: &[u64], plans: &[u16], ends: &[u64], at: Numbered, ticket: Tick
         (commit_on t.now plans.now ends.now
         (numbered_of at) (ticket_of ticket)) at result }
 {
-    let run = at.run;
-    let e = run_replay::refusal(t, plans, ends, run);
-    if e != 0 {
-        return refuse(at, e);
-    }
+    let p = match run_replay::check(t, plans, ends, at.run) {
+        Ok(p) => p,
+        Err(e) => return refuse(at, e),
+    };
     let j = ticket.member as usize;
-    if task::members(t) <= j {
-        return refuse(at, 8);
+    if p.task.members() <= j {
+        return refuse(at, Refusal::Member);
     }
-    let p = run_pick::pick(t, plans, ends, run, j);
-    settle(at, ticket, p)
+    settle(at, ticket, run_pick::pick(&p, at.run, j))
 }

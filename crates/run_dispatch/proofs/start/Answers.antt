@@ -2,8 +2,8 @@
 use Rattle.run_dispatch.proofs.Laws.{start-refused, start-given}
 use Rattle.run_dispatch.proofs.start.Goals as goal
 
-pub returns-then-c-ne0 : goal.returns-then-c-ne0
-returns-then-c-ne0 c = search start-refused
+pub returns-in-Err : goal.returns-in-Err
+returns-in-Err c = let q = c.in-Err.ensures in search start-refused
 
-pub returns : goal.returns
-returns c = search start-given
+pub returns-in-Ok : goal.returns-in-Ok
+returns-in-Ok c = let q = c.in-Ok.ensures in search start-given

@@ -1,11 +1,7 @@
 -- `run_outcome::pickable` meets its contract: some member can be picked where some from j on can. Assumes nothing.
 use Rattle.theory.proofs.Loops.{rest-begin}
-use Rattle.theory.proofs.Plans.{checked-task}
 use Rattle.run_outcome.proofs.Laws.{pick-found, pick-onward, pick-none}
 use Rattle.run_outcome.proofs.pickable.Goals as goal
-
-pub members-n-requires : goal.members-n-requires
-members-n-requires c = search checked-task
 
 pub loop-j-init : goal.loop-j-init
 loop-j-init c = search rest-begin

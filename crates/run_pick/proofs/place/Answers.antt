@@ -3,8 +3,8 @@ use native.Mathlib.Omega.{arith}
 use Rattle.theory.proofs.Accepted.{accepted}
 use Rattle.run_pick.proofs.place.Goals as goal
 
-pub offset_bounds-places-j : goal.offset_bounds-places-j
-offset_bounds-places-j c = omega (arith, (accepted c.args.t.now c.requires.t_value).few-members)
+pub offset_bounds-run-j : goal.offset_bounds-run-j
+offset_bounds-run-j c = omega (arith, (accepted c.args.t.now.words.now c.args.t.now.accepted).few-members)
 
-pub bounds-places-j : goal.bounds-places-j
-bounds-places-j c = omega (arith, (accepted c.args.t.now c.requires.t_value).few-members)
+pub bounds-run-j : goal.bounds-run-j
+bounds-run-j c = omega (arith, (accepted c.args.t.now.words.now c.args.t.now.accepted).few-members)

@@ -8,13 +8,13 @@ returns-then-ends-n c = search wrong_number
 pub loop-j-init : goal.loop-j-init
 loop-j-init c = search rising
 
-pub returns-then-ends-j : goal.returns-then-ends-j
-returns-then-ends-j c = search falls-there
+pub returns-then-end-beginning : goal.returns-then-end-beginning
+returns-then-end-beginning c = search falls-there
 
 pub loop-j-preserved : goal.loop-j-preserved
 loop-j-preserved c =
     rises-there _ _ _ c.loop-j.invariant c.loop-j-test.true _
-    c.beginning.ensures c.if-ends-j.false
+    c.beginning.ensures c.if-end-beginning.false
 
 pub returns : goal.returns
 returns c = search last_end

@@ -1,5 +1,6 @@
 -- `run_plans::member_refusal` meets its contract: fitting ends give a part of the plan slice. Assumes nothing.
 use native.Mathlib.Omega.{arith}
+use Rattle.refusal.specs.Number.{code}
 use Rattle.run_plans.proofs.Laws.{part, part-refusal}
 use Rattle.run_plans.proofs.member_refusal.Goals as goal
 
@@ -40,5 +41,5 @@ pub returns : goal.returns
 returns c =
     let b = c.beginning-from in
     let p = part _ _ _ c.requires.ends_value c.args.j c.requires.j_bound in
-    part-refusal c.args.t.now c.args.plans.now c.args.ends.now c.args.j c.plan_refusal.result b.result b.ensures
-    (omega (arith, p.begins, b.ensures)) c.plan_refusal.ensures
+    part-refusal c.args.t.now.words.now c.args.plans.now c.args.ends.now c.args.j (code c.plan_refusal.result) b.result
+    b.ensures (omega (arith, p.begins, b.ensures)) c.plan_refusal.ensures

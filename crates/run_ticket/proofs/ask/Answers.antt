@@ -1,16 +1,20 @@
 -- `run_ticket::ask` meets its contract: one law for each way out. Assumes nothing.
-use Rattle.run_replay.proofs.Laws.{plans-there}
+use Rattle.std.proofs.lemmas.Result.{err_from_is_err_and}
 use Rattle.run_ticket.proofs.Laws.{ask_refused, ask_impossible, ask_given}
 use Rattle.run_ticket.proofs.ask.Goals as goal
 
-pub returns-then-e-ne0 : goal.returns-then-e-ne0
-returns-then-e-ne0 c = search ask_refused
+pub returns-in_err-p : goal.returns-in_err-p
+returns-in_err-p c =
+    let p = err_from_is_err_and c.from_residual.result c.from_residual.ensures.1 in
+    rw (p.1, p.2) (search (ask_refused, c.in_err-p.ensures))
 
-pub next_step-s-requires : goal.next_step-s-requires
-next_step-s-requires c = search plans-there
+pub returns-in_err-decision : goal.returns-in_err-decision
+returns-in_err-decision c =
+    let q = c.in_ok-p.ensures in
+    let q₁ = c.in_err-decision.ensures in
+    let from = c.from_residual-in_err-decision in
+    let p = err_from_is_err_and from.result from.ensures.1 in
+    rw (p.1, p.2) (search ask_impossible)
 
-pub returns-in-Refused : goal.returns-in-Refused
-returns-in-Refused c = search ask_impossible
-
-pub returns-in-Gives : goal.returns-in-Gives
-returns-in-Gives c = search ask_given
+pub returns : goal.returns
+returns c = let q = c.in_ok-p.ensures in let q₁ = c.in_ok-decision.ensures in search ask_given

@@ -2,11 +2,11 @@
 use Rattle.run_ticket.proofs.Laws.{count-refused, count-last, count-done}
 use Rattle.run_ticket.proofs.count.Goals as goal
 
-pub returns-then-change : goal.returns-then-change
-returns-then-change c = search count-last
+pub returns-then-at-eq-LAST_CHANGE : goal.returns-then-at-eq-LAST_CHANGE
+returns-then-at-eq-LAST_CHANGE c = search count-last
 
-pub returns-in-Refused : goal.returns-in-Refused
-returns-in-Refused c = search count-refused
+pub returns-in-Err : goal.returns-in-Err
+returns-in-Err c = search count-refused
 
-pub returns-else-change : goal.returns-else-change
-returns-else-change c = search count-done
+pub returns-else-at-eq-LAST_CHANGE : goal.returns-else-at-eq-LAST_CHANGE
+returns-else-at-eq-LAST_CHANGE c = search count-done
