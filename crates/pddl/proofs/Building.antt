@@ -14,8 +14,12 @@ use Rattle.semantics.specs.Pddl.{predicates_of, actions_of, named, goal_rows, ow
 use Rattle.semantics.specs.Pddl.{waits_known}
 use Rattle.mask.specs.Number.{number}
 use Rattle.pddl_waits.proofs.Waits.{known_more}
-use Rattle.pddl_waits.specs.declared.Reading.{Reading}
-use Rattle.pddl_waits.specs.Inner.Waits.{WaitsIn}
+use Rattle.std.specs.Prelude.{Option, Some, Result}
+use Rattle.refusal.specs.declared.Refusal.{Refusal}
+use Rattle.refusal.specs.Number.{code}
+use Rattle.pddl_waits.specs.declared.Greatest.{Greatest}
+use Rattle.pddl_waits.specs.Inner.Waits.{Read}
+use Rattle.pddl_name.specs.declared.Span.{Span}
 use Rattle.pddl_name.specs.Inner.Table.{names_in}
 use Rattle.pddl_section.specs.Inner.Section.{members_from}
 use Rattle.pddl_named.specs.declared.Common.{Common}
@@ -23,7 +27,6 @@ use Rattle.pddl_theory.specs.Inner.Limits.{most_facts}
 use Rattle.pddl_theory.specs.Inner.Appended.{Appended}
 use Rattle.pddl_words.specs.Inner.Built.{head_words}
 use Rattle.pddl_theory.proofs.Appending.{both}
-use Rattle.pddl_acts.specs.declared.Own.{Own}
 use Rattle.pddl_named.proofs.Passing.{own-length}
 use Rattle.pddl.specs.Inner.Law.{most_words, NamedIn, rows_of, BuiltOf}
 
@@ -97,7 +100,7 @@ module _ (c : Common) (members actions : ℕ) (few-members : members ≤ 8) (few
   whole : Appended t₀ 0 (rows_of c members actions goals acts) t₃
   whole = both head-goals (rw (← behind) acts_in)
 
-  pub built_of : (r end : ℕ) → end ≡ from + words → r ≡ check (take end t₃)
+  pub built_of : (r : Result (Unit {0}) Refusal) (end : ℕ) → end ≡ from + words → code r ≡ check (take end t₃)
       → BuiltOf c members actions goals acts t₃ r
   built_of r end is-end e =
       let acts-length : length (take (row_width * actions) acts) ≡ row_width * actions =
@@ -122,8 +125,8 @@ module _ (c : Common) (members actions : ℕ) (few-members : members ≤ 8) (few
 
 -- ---- rows of goals and of actions
 
-module _ {text spans masks before goals₀ acts goals : List ℕ} {o : Own}
-    (n : NamedIn text spans masks before goals₀ acts goals o) (h : o.named ≡ true) where
+module _ {text : List ℕ} {spans : List Span} {masks before goals₀ acts goals : List ℕ} {count : ℕ}
+    (n : NamedIn text spans masks before goals₀ acts goals (Some count)) where
   abbrev ms : List Pddl.Member
   ms = members_from text 0
 
@@ -132,19 +135,20 @@ module _ {text spans masks before goals₀ acts goals : List ℕ} {o : Own}
   goals-rows few =
       let size : 0 + length (goal_rows (names_in text spans) 0 ms) ≡ row_width * length ms =
       omega (arith, goals-length (names_in text spans) 0 ms) in
-      ap (λ (k : ℕ). take k goals) (sym size) ∙ (n.goal-rows h few).front
+      ap (λ (k : ℕ). take k goals) (sym size) ∙ (n.goal-rows count refl few).front
 
-  module _ (few : o.count ≤ 256) (few-facts : length (predicates_of ms) ≤ most_facts) {waits : List ℕ} {w : Reading}
-      (x : WaitsIn waits masks w) (good : w.good ≡ true) (size : states_in (length masks) ≡ 256)
+  module _ (few : count ≤ 256) (few-facts : length (predicates_of ms) ≤ most_facts) {waits : List ℕ}
+      {w : Option Greatest} (x : Read waits masks w) (size : states_in (length masks) ≡ 256)
       (known : waits_known (length (actions_of ms)) (length (predicates_of ms)) (text_words waits) ≡ true) where
-    pub acts-rows : take (row_width * o.count) acts ≡ action_rows (names_in text spans) (text_words waits) 0 0 ms
+    pub acts-rows : take (row_width * count) acts ≡ action_rows (names_in text spans) (text_words waits) 0 0 ms
     acts-rows =
         let its : List ℕ = action_rows (names_in text spans) (text_words waits) 0 0 ms in
-        let length-of : 0 + length its ≡ row_width * o.count =
-        omega (arith, actions-length (names_in text spans) (text_words waits) 0 0 ms, n.number h) in
-        let below : length (actions_of ms) ≤ 256 = omega (arith, n.number h, few) in
+        let length-of : 0 + length its ≡ row_width * count =
+        omega (arith, actions-length (names_in text spans) (text_words waits) 0 0 ms, n.number count refl) in
+        let below : length (actions_of ms) ≤ 256 = omega (arith, n.number count refl, few) in
         let all : waits_known 256 most_facts (text_words waits) ≡ true =
-        known_more (length (actions_of ms)) (length (predicates_of ms)) 256 most_facts (text_words waits) below few-facts
+        known_more (length (actions_of ms)) (length (predicates_of ms)) 256 most_facts
+        (text_words waits) below few-facts
         known in
         ap (λ (k : ℕ). take k acts) (sym length-of)
-        ∙ ((n.rows h few).each (text_words waits) (x.masks good (rw size all))).front
+        ∙ ((n.rows count refl few).each (text_words waits) (x.masks (rw size all))).front

@@ -11,58 +11,58 @@ use borrow.Author.Tests.{lt-ltb, le-ltb}
 use Rattle.semantics.specs.Base.{padded, zeroed}
 use Rattle.semantics.specs.Task.{row_width}
 use Rattle.semantics.specs.Pddl.{read_pddl}
-use Rattle.text.specs.declared.TextRead.TheVariants.{Refused, Gives}
+use Rattle.std.specs.Prelude.{Ok, Err}
+use Rattle.refusal.specs.declared.Refusal.{Refusal}
+use Rattle.refusal.specs.declared.Refusal.TheVariants as refusal
+use Rattle.refusal.specs.Number.{number}
+use Rattle.refusal.proofs.Laws.{number-positive}
 use Rattle.text.specs.Post.{reading}
 use Rattle.text.proofs.Scanning.{cleared}
-use Rattle.pddl.specs.declared.Law.{Law}
 use Rattle.pddl.specs.Inner.Law.{law_words, law_refusal, LawIn}
 
-module _ {text waits table : List ℕ} (words : List ℕ) (l : Law) (x : LawIn text waits table l) where
-  refused-at : (r : ℕ) → r ≡ law_refusal text waits → (r ≡ 0 → ⊥)
-      → reading (Refused r) (zeroed words) ≡ read_pddl text waits words
-  unfolding read_pddl
-  refused-at zero e z = absurd (z refl)
-  refused-at (suc r) e z = rw (← e)
+refused-at : (text waits words : List ℕ) (e : Refusal) (r : ℕ) → r ≡ number e → r ≡ law_refusal text waits → 0 < r
+    → reading (Err e) (zeroed words) ≡ read_pddl text waits words
+unfolding read_pddl
+refused-at text waits words e zero n i h = absurd (omega (arith, h))
+refused-at text waits words e (suc r) n i h = rw (← i, ← n)
 
-  pub read-refused : (r : ℕ) → r ≡ l.refusal → (r ≡ 0 → ⊥) → (out : List ℕ)
-      → out ≡ replicate (length words - 0) 0 → reading (Refused r) out ≡ read_pddl text waits words
-  read-refused r e z out o = ap (reading (Refused r)) (cleared words out o) ∙ refused-at r (e ∙ x.refusal) z
+module _ {text waits table : List ℕ} (words : List ℕ) where
+  pub read-refused : (e : Refusal) → LawIn text waits table (Err e) → (out : List ℕ)
+      → out ≡ replicate (length words - 0) 0 → reading (Err e) out ≡ read_pddl text waits words
+  read-refused e x out o =
+      ap (reading (Err e)) (cleared words out o)
+      ∙ refused-at text waits words e (number e) refl x.refusal (number-positive e)
 
-  module _ (r : ℕ) (e : r ≡ l.refusal) (z : r ≡ 0) where
-    none : l.refusal ≡ 0
-    none = sym e ∙ z
-
+  module _ (records : ℕ) (x : LawIn text waits table (Ok records)) where
     accepted : law_refusal text waits ≡ 0
-    accepted = sym x.refusal ∙ none
+    accepted = sym x.refusal
 
-    size : length (law_words text waits) ≡ row_width * l.records
-    size = ap length (sym (x.words none)) ∙ length-take-le (row_width * l.records) table x.room
+    size : length (law_words text waits) ≡ row_width * records
+    size = ap length (sym x.law.words) ∙ length-take-le (row_width * records) table x.law.room
 
-    room : (n : ℕ) → n ≡ row_width * l.records → n ≤ length table
-    room n q = rw q x.room
-
-    pub read_short : (n : ℕ) → n ≡ row_width * l.records → length words < n → reading (Refused 14) words
-        ≡ read_pddl text waits words
+    pub read_short : length words < row_width * records
+        → reading (Err refusal.Short) words ≡ read_pddl text waits words
     unfolding read_pddl
-    read_short n q h =
+    read_short h =
         let s : ltb (length words) (length (law_words text waits)) ≡ true =
         lt-ltb (length words) (length (law_words text waits)) (omega (arith, size)) in
         rw (accepted, s)
 
-    pub read_whole : (n : ℕ) → n ≡ row_width * l.records → n ≤ length words → (copied out : List ℕ)
-        → copied ≡ paste words 0 table n
-        → out ≡ take n copied ++ replicate (length copied - n) 0
-        → reading (Gives l.records) out ≡ read_pddl text waits words
+    pub read_whole : row_width * records ≤ length words → (copied out : List ℕ)
+        → copied ≡ paste words 0 table (row_width * records)
+        → out ≡ take (row_width * records) copied ++ replicate (length copied - row_width * records) 0
+        → reading (Ok records) out ≡ read_pddl text waits words
     unfolding read_pddl
-    read_whole n q h copied out c o =
+    read_whole h copied out c o =
+        let n : ℕ = row_width * records in
         let words-of : List ℕ = law_words text waits in
-        let there : take n table ≡ words-of = ap (λ (k : ℕ). take k table) q ∙ x.words none in
-        let long : length words-of ≡ n = size ∙ sym q in
+        let there : take n table ≡ words-of = x.law.words in
+        let long : length words-of ≡ n = size in
         let fits : length words-of ≤ length words = omega arith in
         let front : take n copied ≡ words-of = rw (c, there) (take_at words-of (drop (0 + n) words) n long) in
-        let all : length copied ≡ length words = rw c (length-paste words 0 table n (omega arith) (room n q)) in
+        let all : length copied ≡ length words = rw c (length-paste words 0 table n (omega arith) x.law.room) in
         let gap : length copied - n ≡ length words - length words-of = omega arith in
         let filled : out ≡ padded (length words) words-of =
         o ∙ ap₂ (λ (xs : List ℕ) (k : ℕ). xs ++ replicate k 0) front gap in
         let s : ltb (length words) (length words-of) ≡ false = le-ltb (length words) (length words-of) fits in
-        rw (accepted, s, x.number none, filled)
+        rw (accepted, s, x.law.number, filled)

@@ -1,127 +1,102 @@
 -- What a token says of the tokens from its offset on.
 use mathlib.Core.Path.{◌≡◌, refl, sym, ◌∙◌}
 use mathlib.Core.Bool.{Bool, true, false, cond, true≢false}
-use mathlib.Core.List.{List, [], ◌∷◌}
+use mathlib.Core.List.{List}
 use Prim.Native.Nat.{ℕ, ◌-◌, ◌≤◌, ◌<◌}
 use native.Mathlib.Omega.{arith}
 use lib.ListN.{length}
 use Rattle.semantics.specs.Pddl as Pddl
-use Rattle.semantics.specs.Pddl.{opening, closing, Parsed, outside, parsed, ◌then◌, is_name}
+use Rattle.semantics.specs.Pddl.{outside, is_name}
 use Rattle.pddl_theory.specs.Inner.Place.{rest, span}
-use Rattle.pddl_theory.proofs.Chain.{via}
 use Rattle.pddl_token.specs.Inner.Next.{Next}
 use Rattle.pddl_token.specs.declared.Token.{Token}
 use Rattle.pddl_token.specs.declared.Token.TheVariants as T
-use Rattle.pddl_form.specs.Inner.Place.{opened_of, closed_of, no_word, worded_of, behind_of, is_end, agreed, offset_of}
-use Rattle.pddl_form.specs.Inner.Place.{left, Behind, Opens, Closes, Expects, Names, Atoms}
-use Rattle.pddl_form.specs.declared.Place.{Place}
-use Rattle.pddl_form.specs.declared.Place.TheVariants.{At, Outside}
+use Rattle.pddl_form.specs.Inner.Place.{behind_of, agreed, offset_of, Opens, Closes, Expects, Names, Atoms}
+use Rattle.std.specs.Prelude.{Option}
+use Rattle.std.specs.Prelude.{Some, None}
 use Rattle.pddl_form.specs.declared.Word.{Word}
 
 module _ {text : List ℕ} {n : ℕ} where
-  opens_of : (t : Token) → Next text n t → Opens text (At n) (opened_of t)
+  pub opens_open : (m : ℕ) → Next text n (T.Open m) → Opens text n (Some m)
   unfolding Pddl.expect Pddl.same_token
-  opens_of (T.Open m) x = record { same = rw x.same; onward = x.onward }
-  opens_of (T.Close m) x = record { same = rw x.same; onward = tt }
-  opens_of (T.Word s e) x = record { same = rw x.same; onward = tt }
-  opens_of T.End x = record { same = rw x.same; onward = tt }
-  opens_of T.Stray x = record { same = rw x.same; onward = tt }
+  opens_open m x = record { same = rw x.same; onward = x.onward }
 
-  pub opens : (p : Place) → p ≡ At n → (t : Token) → Next text n t → (r : Place) → r ≡ opened_of t → Opens text p r
-  opens p q t x r e = rw (q, e) (opens_of t x)
-
-  closes-of : (t : Token) → Next text n t → Closes text (At n) (closed_of t)
+  pub opens_none : (t : Token) → Next text n t → ((m : ℕ) → t ≡ T.Open m → ⊥) → Opens text n None
   unfolding Pddl.expect Pddl.same_token
-  closes-of (T.Open m) x = record { same = rw x.same; onward = tt }
-  closes-of (T.Close m) x = record { same = rw x.same; onward = x.onward }
-  closes-of (T.Word s e) x = record { same = rw x.same; onward = tt }
-  closes-of T.End x = record { same = rw x.same; onward = tt }
-  closes-of T.Stray x = record { same = rw x.same; onward = tt }
+  opens_none (T.Open m) x h = absurd (h m refl)
+  opens_none (T.Close m) x h = record { same = rw x.same; onward = tt }
+  opens_none (T.Word s e) x h = record { same = rw x.same; onward = tt }
+  opens_none T.End x h = record { same = rw x.same; onward = tt }
+  opens_none T.Stray x h = record { same = rw x.same; onward = tt }
 
-  pub closes : (p : Place) → p ≡ At n → (t : Token) → Next text n t → (r : Place) → r ≡ closed_of t → Closes text p r
-  closes p q t x r e = rw (q, e) (closes-of t x)
+  pub closes_close : (m : ℕ) → Next text n (T.Close m) → Closes text n (Some m)
+  unfolding Pddl.expect Pddl.same_token
+  closes_close m x = record { same = rw x.same; onward = x.onward }
 
-  word-within : (t : Token) → Next text n t → (worded_of t).end ≤ length text
-  word-within (T.Open m) x = omega arith
-  word-within (T.Close m) x = omega arith
-  word-within (T.Word s e) x = x.onward.2
-  word-within T.End x = omega arith
-  word-within T.Stray x = omega arith
+  pub closes_none : (t : Token) → Next text n t → ((m : ℕ) → t ≡ T.Close m → ⊥) → Closes text n None
+  unfolding Pddl.expect Pddl.same_token
+  closes_none (T.Open m) x h = record { same = rw x.same; onward = tt }
+  closes_none (T.Close m) x h = absurd (h m refl)
+  closes_none (T.Word s e) x h = record { same = rw x.same; onward = tt }
+  closes_none T.End x h = record { same = rw x.same; onward = tt }
+  closes_none T.Stray x h = record { same = rw x.same; onward = tt }
 
-  pub worded_within : (t : Token) → Next text n t → (w : Word) → w ≡ worded_of t → w.end ≤ length text
-  worded_within t x w e = rw e (word-within t x)
-
-  named-of : (t : Token) → Next text n t → is_name (span text (worded_of t).first (worded_of t).end) ≡ true
-      → Names text (At n) (worded_of t)
+  pub no_word : (t : Token) → Next text n t → ((s e : ℕ) → t ≡ T.Word s e → ⊥) → Names text n None
   unfolding Pddl.name
-  named-of (T.Open m) x h = record { same = rw x.same; onward = tt; within = omega arith }
-  named-of (T.Close m) x h = record { same = rw x.same; onward = tt; within = omega arith }
-  named-of (T.Word s e) x h =
-      record {
-        same = rw (x.same, h);
-        onward = (omega (arith, x.onward.0, x.onward.1), x.onward.2);
-        within =
-            x.onward.2;
-      }
-  named-of T.End x h = record { same = rw x.same; onward = tt; within = omega arith }
-  named-of T.Stray x h = record { same = rw x.same; onward = tt; within = omega arith }
+  no_word (T.Open m) x h = record { same = rw x.same; onward = tt }
+  no_word (T.Close m) x h = record { same = rw x.same; onward = tt }
+  no_word (T.Word s e) x h = absurd (h s e refl)
+  no_word T.End x h = record { same = rw x.same; onward = tt }
+  no_word T.Stray x h = record { same = rw x.same; onward = tt }
 
-  unnamed-of : (t : Token) → Next text n t → is_name (span text (worded_of t).first (worded_of t).end) ≡ false
-      → Names text (At n) no_word
-  unfolding Pddl.name
-  unnamed-of (T.Open m) x h = record { same = rw x.same; onward = tt; within = omega arith }
-  unnamed-of (T.Close m) x h = record { same = rw x.same; onward = tt; within = omega arith }
-  unnamed-of (T.Word s e) x h = record { same = rw (x.same, h); onward = tt; within = omega arith }
-  unnamed-of T.End x h = record { same = rw x.same; onward = tt; within = omega arith }
-  unnamed-of T.Stray x h = record { same = rw x.same; onward = tt; within = omega arith }
+  module _ (s e : ℕ) (x : Next text n (T.Word s e)) (b : Bool) (is : b ≡ is_name (span text s e)) where
+    pub word-within : e ≤ length text
+    word-within = x.onward.2
 
-  module _ (p : Place) (q : p ≡ At n) (t : Token) (x : Next text n t) (w : Word) (e : w ≡ worded_of t) (b : Bool)
-      (is : b ≡ is_name (span text w.first w.end)) where
-    pub named : b ≡ true → Names text p w
+    pub named : b ≡ true → Names text n (Some (record { first = s; end = e; next = e }))
+    unfolding Pddl.name
     named h =
-        let k : is_name (span text (worded_of t).first (worded_of t).end) ≡ true = rw e at (sym is ∙ h) in
-        rw (q, e) (named-of t x k)
+        let k : is_name (span text s e) ≡ true = sym is ∙ h in
+        record {
+          same = rw (x.same, k);
+          onward = (omega (arith, x.onward.0, x.onward.1), x.onward.2, x.onward.2);
+        }
 
-    pub unnamed : b ≡ false → Names text p no_word
+    pub unnamed : b ≡ false → Names text n None
+    unfolding Pddl.name
     unnamed h =
-        let k : is_name (span text (worded_of t).first (worded_of t).end) ≡ false = rw e at (sym is ∙ h) in
-        rw q (unnamed-of t x k)
+        let k : is_name (span text s e) ≡ false = sym is ∙ h in
+        record { same = rw (x.same, k); onward = tt }
 
 -- ---- an atom
 
-pub behind-behind : (most : ℕ) (p q r : Place) → Behind most p q → Behind most q r → Behind most p r
-behind-behind most p q Outside h k = tt
-behind-behind most p Outside (At n) h k = absurd k
-behind-behind most Outside (At m) (At n) h k = absurd h
-behind-behind most (At a) (At m) (At n) h k = (omega (arith, h.0, k.0), k.1)
+module _ {text : List ℕ} {at : ℕ} where
+  pub no_opening : Opens text at None → Atoms text at None
+  unfolding Pddl.atom
+  no_opening o = record { same = rw (← o.same); onward = tt }
 
-module _ {text : List ℕ} {p a z : Place} {w : Word} (o : Opens text p a) (m : Names text a w)
-    (c : Closes text w.place z) where
-  closed-atom : List ℕ → List Pddl.Token → Parsed (List ℕ)
-  closed-atom v ts = Pddl.expect (closing ∷ []) ts then λ _ ts. parsed v ts
+  module _ {n : ℕ} (o : Opens text at (Some n)) where
+    pub no-name : Names text n None → Atoms text at None
+    unfolding Pddl.atom
+    no-name m = record { same = rw (← o.same, ← m.same); onward = tt }
 
-  atom-same : (left text p then λ _ ts. Pddl.atom ts)
-      ≡ (left text z then λ _ ts. parsed (span text w.first w.end) ts)
-  unfolding Pddl.atom closed-atom
-  atom-same =
-      via (left text p) (λ _ ts. Pddl.expect (opening ∷ []) ts) (λ _ ts. Pddl.name ts then closed-atom) o.same
-      ∙ via (left text a) (λ _ ts. Pddl.name ts) closed-atom m.same
-      ∙ sym (via (left text w.place) (λ _ ts. parsed (span text w.first w.end) ts) closed-atom refl)
-      ∙ via (left text w.place) (λ _ ts. Pddl.expect (closing ∷ []) ts)
-      (λ _ ts. parsed (span text w.first w.end) ts) c.same
+    module _ {w : Word} (m : Names text n (Some w)) where
+      pub no_closing : Closes text w.next None → Atoms text at None
+      unfolding Pddl.atom
+      no_closing c = record { same = rw (← o.same, ← m.same, ← c.same); onward = tt }
 
-  pub an_atom : Atoms text p (record { first = w.first; end = w.end; place = z })
-  an_atom =
-      record {
-        same = sym atom-same;
-        onward = behind-behind (length text) p a z o.onward
-            (behind-behind (length text) a w.place z m.onward c.onward);
-        within = m.within;
-      }
+      pub an_atom : {z : ℕ} → Closes text w.next (Some z)
+          → Atoms text at (Some (record { first = w.first; end = w.end; next = z }))
+      unfolding Pddl.atom
+      an_atom c =
+          record {
+            same = rw (← o.same, ← m.same, ← c.same);
+            onward = (omega (arith, o.onward.0, m.onward.0, c.onward.0), c.onward.1, m.onward.2);
+          }
 
 -- ---- a pattern
 
-expect-of : (text pattern : List ℕ) (i j : ℕ) (t w : Token) → Next text i t → Next pattern j w → is_end w ≡ false
+expect-of : (text pattern : List ℕ) (i j : ℕ) (t w : Token) → Next text i t → Next pattern j w → (w ≡ T.End → ⊥)
     → Pddl.expect (rest pattern j) (rest text i)
     ≡ cond (agreed text t pattern w)
     (Pddl.expect (rest pattern (offset_of (behind_of w))) (rest text (offset_of (behind_of t)))) outside
@@ -141,7 +116,7 @@ expect-of text pattern i j (T.Close n) (T.Word a b) x y h = rw (x.same, y.same)
 expect-of text pattern i j (T.Word s e) (T.Word a b) x y h = rw (x.same, y.same)
 expect-of text pattern i j T.End (T.Word a b) x y h = rw (x.same, y.same)
 expect-of text pattern i j T.Stray (T.Word a b) x y h = rw (x.same, y.same)
-expect-of text pattern i j t T.End x y h = absurd (true≢false h)
+expect-of text pattern i j t T.End x y h = absurd (h refl)
 expect-of text pattern i j (T.Open n) T.Stray x y h = rw (x.same, y.same)
 expect-of text pattern i j (T.Close n) T.Stray x y h = rw (x.same, y.same)
 expect-of text pattern i j (T.Word s e) T.Stray x y h = rw (x.same, y.same)
@@ -179,13 +154,6 @@ agreed-onward text pattern i j T.Stray (T.Word a b) x y h = absurd (true≢false
 agreed-onward text pattern i j t T.End x y h = absurd (true≢false (sym h))
 agreed-onward text pattern i j t T.Stray x y h = absurd (true≢false (sym h))
 
-ended : (pattern : List ℕ) (j : ℕ) (w : Token) → Next pattern j w → is_end w ≡ true → rest pattern j ≡ []
-ended pattern j (T.Open n) y h = absurd (true≢false (sym h))
-ended pattern j (T.Close n) y h = absurd (true≢false (sym h))
-ended pattern j (T.Word a b) y h = absurd (true≢false (sym h))
-ended pattern j T.End y h = y.same
-ended pattern j T.Stray y h = absurd (true≢false (sym h))
-
 -- up to i and j the text agrees with the pattern
 pub record Expecting (text : List ℕ) (at : ℕ) (pattern : List ℕ) (i j : ℕ) : Type 0 where
   pub low : at ≤ i
@@ -195,52 +163,35 @@ pub record Expecting (text : List ℕ) (at : ℕ) (pattern : List ℕ) (i j : �
 pub expecting_begin : (text : List ℕ) (at : ℕ) (pattern : List ℕ) → Expecting text at pattern at 0
 expecting_begin text at pattern = record { low = omega arith; within = omega arith; whole = refl }
 
-module _ {text : List ℕ} {at : ℕ} {pattern : List ℕ} {i j : ℕ} (g : Expecting text at pattern i j) (w : Token)
-    (y : Next pattern j w)
-    (b : Bool) (is : b ≡ is_end w) where
-  pub expecting_end : b ≡ true → Expects text (At at) pattern (At i)
+module _ {text : List ℕ} {at : ℕ} {pattern : List ℕ} {i j : ℕ} (g : Expecting text at pattern i j) where
+  pub expecting_end : Next pattern j T.End → Expects text at pattern (Some i)
   unfolding Pddl.expect
-  expecting_end h =
-      record { same = sym (g.whole ∙ rw (ended pattern j w y (sym is ∙ h))); onward = g.low }
+  expecting_end y = record { same = sym (g.whole ∙ rw y.same); onward = g.low }
 
-  module _ (h : b ≡ false) (t : Token) (x : Next text i t) (s : Bool) (same : s ≡ agreed text t pattern w) where
+  module _ (w : Token) (y : Next pattern j w) (h : w ≡ T.End → ⊥) (t : Token) (x : Next text i t) (s : Bool)
+      (same : s ≡ agreed text t pattern w) where
     turn : Pddl.expect (rest pattern 0) (rest text at)
         ≡ cond s (Pddl.expect (rest pattern (offset_of (behind_of w))) (rest text (offset_of (behind_of t)))) outside
-    turn = g.whole ∙ expect-of text pattern i j t w x y (sym is ∙ h) ∙ rw (← same)
+    turn = g.whole ∙ expect-of text pattern i j t w x y h ∙ rw (← same)
 
-    pub expecting_out : s ≡ false → Expects text (At at) pattern Outside
+    pub expecting_out : s ≡ false → Expects text at pattern None
     expecting_out k = record { same = sym (rw k at turn); onward = tt }
 
-    both-onward : s ≡ true → (i < offset_of (behind_of t)) × (j < offset_of (behind_of w))
-    both-onward k = agreed-onward text pattern i j t w x y (sym same ∙ k)
+    module _ (k : s ≡ true) (p q : Option ℕ) (is-p : p ≡ behind_of t) (is-q : q ≡ behind_of w) where
+      both-onward : (i < offset_of (behind_of t)) × (j < offset_of (behind_of w))
+      both-onward = agreed-onward text pattern i j t w x y (sym same ∙ k)
 
-    pub expecting_less : s ≡ true → (m : ℕ) → m ≡ offset_of (behind_of w) → length pattern - m < length pattern - j
-    expecting_less k m em =
-        let l : m ≤ length pattern = rw em (behind-within pattern j w y) in
-        let h : j < m = rw em (both-onward k).1 in
-        omega arith
+      pub expecting_less : (m : ℕ) → m ≡ offset_of q → length pattern - m < length pattern - j
+      expecting_less m em =
+          let l : m ≤ length pattern = rw (em, is-q) (behind-within pattern j w y) in
+          let h : j < m = rw (em, is-q) both-onward.1 in
+          omega arith
 
-    pub expecting_on : s ≡ true → (n m : ℕ) → n ≡ offset_of (behind_of t) → m ≡ offset_of (behind_of w)
-        → Expecting text at pattern n m
-    expecting_on k n m en em =
-        rw (en, em)
-        (record {
-          low = omega (arith, (both-onward k).0, g.low);
-          within = behind-within pattern j w y;
-          whole =
-              rw k at turn;
-        })
-
--- ---- two words
-
-module _ (text pattern : List ℕ) (t w : Token) (s e a b : ℕ) (is-t : t ≡ T.Word s e) (is-w : w ≡ T.Word a b) where
-  pub words-within : offset_of (behind_of t) ≤ length text → offset_of (behind_of w) ≤ length pattern
-      → (b ≤ length pattern) × (e ≤ length text)
-  words-within h k = (rw is-w at k, rw is-t at h)
-
-  pub words-agree : (r : Bool) → r ≡ Pddl.same (span pattern a b) (span text s e) → r ≡ agreed text t pattern w
-  words-agree r h = rw (is-t, is-w) h
-
-pub expects_at : {text : List ℕ} (p : Place) (n : ℕ) → p ≡ At n → (pattern : List ℕ) (r : Place)
-    → Expects text (At n) pattern r → Expects text p pattern r
-expects_at p n q pattern r x = rw q x
+      pub expecting_on : (n m : ℕ) → n ≡ offset_of p → m ≡ offset_of q → Expecting text at pattern n m
+      expecting_on n m en em =
+          rw (en, em, is-p, is-q)
+          (record {
+            low = omega (arith, both-onward.0, g.low);
+            within = behind-within pattern j w y;
+            whole = rw k at turn;
+          })

@@ -2,7 +2,7 @@
 use mathlib.Core.Path.{◌≡◌, refl, sym, ap, ◌∙◌}
 use mathlib.Core.Bool.{Bool, true, false, ◌&&◌, and-true}
 use mathlib.Core.List.{List, [], ◌∷◌, ◌++◌}
-use Prim.Native.Nat.{ℕ, ◌≤◌}
+use Prim.Native.Nat.{ℕ, ◌≤◌, ◌<◌}
 use native.Mathlib.Omega.{arith}
 use lib.ListN.{length}
 use lib.Bits.{bit_or, or_add_and, and_le_r}
@@ -12,12 +12,12 @@ use Rattle.mask.specs.declared.Mask.{Mask}
 use Rattle.mask.specs.Number.{number}
 use Rattle.pddl_theory.specs.Inner.Place.{rest}
 use Rattle.pddl_theory.proofs.Sets.{known-append, facts_of_append, mask_of_append}
+use Rattle.pddl_name.specs.declared.Span.{Span}
 use Rattle.pddl_name.specs.Inner.Table.{names_in}
-use Rattle.pddl_form.specs.declared.Place.{Place}
-use Rattle.pddl_form.specs.declared.Place.TheVariants.{At, Outside}
-use Rattle.pddl_form.specs.Inner.Place.{left, atoms_from, Behind}
+use Rattle.std.specs.Prelude.{Option, Some, None}
+use Rattle.pddl_form.specs.Inner.Place.{atoms_from}
 use Rattle.pddl_formula.specs.declared.Literals.{Literals}
-use Rattle.pddl_formula.specs.Inner.Formula.{Nothing, Means}
+use Rattle.pddl_formula.specs.Inner.Formula.{Told, Means}
 use Rattle.pddl_formula.proofs.Openings.{none_read, left-same}
 
 -- ---- literals as masks
@@ -25,7 +25,7 @@ use Rattle.pddl_formula.proofs.Openings.{none_read, left-same}
 or-zero : (n : ℕ) → bit_or n 0 ≡ n
 or-zero n = omega (arith, or_add_and n 0, and_le_r n 0)
 
-module _ (text spans : List ℕ) (more : ℕ) where
+module _ (text : List ℕ) (spans : List Span) (more : ℕ) where
   -- the masks of literals, and whether their names are known
   pub record Tells (ls : List Literal) (a d : ℕ) (k : Bool) : Type 0 where
     pub adds : a ≡ mask_of (names_in text spans) (facts_of false ls)
@@ -65,59 +65,37 @@ module _ (text spans : List ℕ) (more : ℕ) where
 
 -- ---- answers
 
-module _ {text spans : List ℕ} {more : ℕ} {p : Place} where
-  pub means-read : (reading : Parsed (List Literal)) (ls : List Literal) (n : ℕ) (a d : Mask) (k : Bool)
-      → reading ≡ parsed ls (rest text n) → Behind (length text) p (At n)
-      → Tells text spans more ls (number a) (number d) k
-      → Means text spans more p reading (record { adds = a; dels = d; known = k; place = At n })
-  means-read reading ls n a d k e h t =
-      rw e (record { place = refl; onward = h; adds = t.adds; dels = t.dels; names = t.names })
+pub means-read : {text : List ℕ} {spans : List Span} {more at : ℕ} (reading : Parsed (List Literal)) (ls : List Literal)
+    (n : ℕ) (a d : Mask) (k : Bool) → reading ≡ parsed ls (rest text n) → (at < n) × (n ≤ length text)
+    → Tells text spans more ls (number a) (number d) k
+    → Means text spans more at reading (Some (record { adds = a; dels = d; known = k; next = n }))
+means-read reading ls n a d k e h t =
+    rw e (record { place = refl; onward = h; adds = t.adds; dels = t.dels; names = t.names })
 
-  pub means-none : (reading : Parsed (List Literal)) → reading ≡ outside → (r : Literals) → Nothing r
-      → Means text spans more p reading r
-  unfolding mask_of collect all_of
-  means-none reading e r q =
-      rw e
-      (record {
-        place = ap (left text) q.no_place;
-        onward = rw q.no_place tt;
-        adds = q.no-adds;
-        dels = q.no-dels;
-        names = q.all_known;
-      })
-
--- the literals of an answer that has a place
-pub record Read (text spans : List ℕ) (more n : ℕ) (reading : Parsed (List Literal)) (r : Literals) : Type 0 where
+-- the literals of an answer
+pub record Read (text : List ℕ) (spans : List Span) (more : ℕ) (reading : Parsed (List Literal)) (r : Literals)
+    : Type 0 where
   pub literals : List Literal
-  pub is : reading ≡ parsed literals (rest text n)
+  pub is : reading ≡ parsed literals (rest text r.next)
   pub tells : Tells text spans more literals (number r.adds) (number r.dels) r.known
 
-module _ {text spans : List ℕ} {more : ℕ} {p : Place} {r : Literals} where
-  pub read_of : (reading : Parsed (List Literal)) → Means text spans more p reading r → (n : ℕ) → r.place ≡ At n
-      → Read text spans more n reading r
-  read_of outside x n e = absurd (none_read {ts = rest text n} (sym x.place ∙ ap (left text) e))
-  read_of (parsed ls ts) x n e =
-      let q : ts ≡ rest text n = left-same (sym x.place ∙ ap (left text) e) in
-      record { literals = ls; is = rw q; tells = record { adds = x.adds; dels = x.dels; names = x.names } }
-
-  pub none_of : (reading : Parsed (List Literal)) → Means text spans more p reading r → r.place ≡ Outside
-      → reading ≡ outside
-  none_of outside x e = refl
-  none_of (parsed ls ts) x e = absurd (none_read (ap (left text) (sym e) ∙ x.place))
-
--- a place behind a later one is behind an earlier one
-pub behind-low : (most a b : ℕ) (q : Place) → a ≤ b → Behind most (At b) q → Behind most (At a) q
-behind-low most a b Outside h k = tt
-behind-low most a b (At n) h k = (omega (arith, k.0), k.1)
+pub read_of : {text : List ℕ} {spans : List Span} {more at : ℕ} (reading : Parsed (List Literal)) (r : Literals)
+    → Told text spans more at reading r → Read text spans more reading r
+read_of {text} outside r x = absurd (none_read {ts = rest text r.next} x.place)
+read_of {text} (parsed ls ts) r x =
+    let q : ts ≡ rest text r.next = left-same x.place in
+    record { literals = ls; is = rw q; tells = record { adds = x.adds; dels = x.dels; names = x.names } }
 
 -- a formula that is read from a later offset on
-pub means-from : {text spans : List ℕ} {more at n : ℕ} (reading other : Parsed (List Literal)) (r : Literals)
-    → Means text spans more (At n) reading r → at ≤ n → other ≡ reading → Means text spans more (At at) other r
-means-from {text = text} {at = at} {n = n} reading other r x h e =
+pub means-from : (text : List ℕ) (spans : List Span) (more : ℕ) {at n : ℕ} (reading other : Parsed (List Literal))
+    (r : Option Literals)
+    → Means text spans more n reading r → at ≤ n → other ≡ reading → Means text spans more at other r
+means-from text spans more reading other None x h e = e ∙ x
+means-from text spans more reading other (Some r) x h e =
     rw e
     (record {
       place = x.place;
-      onward = behind-low (length text) at n r.place h x.onward;
+      onward = (omega (arith, x.onward.0), x.onward.1);
       adds = x.adds;
       dels = x.dels;
       names = x.names;

@@ -12,48 +12,48 @@ use Rattle.pddl_theory.proofs.Sizes.{atoms-few}
 use Rattle.pddl_theory.proofs.Turns.{Numbered, numbered_below, numbered-on, numbered-end}
 use Rattle.pddl_theory.proofs.Turns.{Asked, all-not, all-on, all_end, twice_found, twice-on, twice-end}
 use Rattle.pddl_form.specs.Inner.Place.{atoms_from, Atoms}
-use Rattle.pddl_form.specs.declared.Place.TheVariants.{At, Outside}
+use Rattle.std.specs.Prelude.{Some, None}
 use Rattle.pddl_form.specs.declared.Word.{Word}
 use Rattle.pddl_form.proofs.Lists.{atoms-next, atoms-none}
 
 -- ---- how many
 
-module _ {text : List ℕ} {at n i : ℕ} (g : Numbered (atoms_from text) at n i) (a : Word) (x : Atoms text (At i) a) where
-  pub counting-below : (m : ℕ) → a.place ≡ At m → n + 1 ≤ length text
-  counting-below m e = omega (arith, numbered_below g m (atoms-next x m e), atoms-few text at)
+module _ {text : List ℕ} {at n i : ℕ} (g : Numbered (atoms_from text) at n i) where
+  module _ {a : Word} (x : Atoms text i (Some a)) where
+    pub counting-below : n + 1 ≤ length text
+    counting-below = omega (arith, numbered_below g a.next (atoms-next x), atoms-few text at)
 
-  pub counting-on : (m : ℕ) → a.place ≡ At m → Numbered (atoms_from text) at (n + 1) m
-  counting-on m e = numbered-on g m (atoms-next x m e)
+    pub counting-on : Numbered (atoms_from text) at (n + 1) a.next
+    counting-on = numbered-on g a.next (atoms-next x)
 
-  pub counting-end : a.place ≡ Outside → n ≡ length (atoms_from text at)
-  counting-end e = numbered-end g (atoms-none x e)
+  pub counting-end : Atoms text i None → n ≡ length (atoms_from text at)
+  counting-end x = numbered-end g (atoms-none x)
 
 -- ---- a question to one list
 
 module _ {text : List ℕ} {at i : ℕ} where
-  module _ (g : Asked none_twice (atoms_from text) at i) (a : Word) (x : Atoms text (At i) a) where
-    module _ (n : ℕ) (e : a.place ≡ At n) (b : Bool)
-        (is : b ≡ is_in (atoms_from text n) (span text a.first a.end)) where
+  module _ (g : Asked none_twice (atoms_from text) at i) where
+    module _ {a : Word} (x : Atoms text i (Some a)) (b : Bool)
+        (is : b ≡ is_in (atoms_from text a.next) (span text a.first a.end)) where
       pub distinct-not : b ≡ true → false ≡ none_twice (atoms_from text at)
-      distinct-not h = twice_found g n (atoms-next x n e) b is h
+      distinct-not h = twice_found g a.next (atoms-next x) b is h
 
-      pub distinct-on : b ≡ false → Asked none_twice (atoms_from text) at n
-      distinct-on h = twice-on g n (atoms-next x n e) b is h
+      pub distinct-on : b ≡ false → Asked none_twice (atoms_from text) at a.next
+      distinct-on h = twice-on g a.next (atoms-next x) b is h
 
-    pub distinct-end : a.place ≡ Outside → true ≡ none_twice (atoms_from text at)
-    distinct-end e = twice-end g (atoms-none x e)
+    pub distinct-end : Atoms text i None → true ≡ none_twice (atoms_from text at)
+    distinct-end x = twice-end g (atoms-none x)
 
-  module _ (ws : List (List ℕ)) (g : Asked (all_of (is_in ws)) (atoms_from text) at i) (a : Word)
-      (x : Atoms text (At i) a) where
-    module _ (n : ℕ) (e : a.place ≡ At n) (b : Bool) (is : b ≡ is_in ws (span text a.first a.end)) where
+  module _ (ws : List (List ℕ)) (g : Asked (all_of (is_in ws)) (atoms_from text) at i) where
+    module _ {a : Word} (x : Atoms text i (Some a)) (b : Bool) (is : b ≡ is_in ws (span text a.first a.end)) where
       pub covered_not : b ≡ false → false ≡ all_of (is_in ws) (atoms_from text at)
-      covered_not h = all-not (is_in ws) g n (atoms-next x n e) b is h
+      covered_not h = all-not (is_in ws) g a.next (atoms-next x) b is h
 
-      pub covered_on : b ≡ true → Asked (all_of (is_in ws)) (atoms_from text) at n
-      covered_on h = all-on (is_in ws) g n (atoms-next x n e) b is h
+      pub covered_on : b ≡ true → Asked (all_of (is_in ws)) (atoms_from text) at a.next
+      covered_on h = all-on (is_in ws) g a.next (atoms-next x) b is h
 
-    pub covered_end : a.place ≡ Outside → true ≡ all_of (is_in ws) (atoms_from text at)
-    covered_end e = all_end (is_in ws) g (atoms-none x e)
+    pub covered_end : Atoms text i None → true ≡ all_of (is_in ws) (atoms_from text at)
+    covered_end x = all_end (is_in ws) g (atoms-none x)
 
 -- ---- two lists
 
@@ -63,31 +63,31 @@ pub record Comparing (text : List ℕ) (a b i j : ℕ) : Type 0 where
 pub comparing_begin : (text : List ℕ) (a b : ℕ) → Comparing text a b a b
 comparing_begin text a b = record { whole = refl }
 
-module _ {text : List ℕ} {a b i j : ℕ} (g : Comparing text a b i j) (x : Word) (p : Atoms text (At i) x) (y : Word)
-    (q : Atoms text (At j) y) where
-  module _ (n : ℕ) (e : x.place ≡ At n) (m : ℕ) (f : y.place ≡ At m) (t : Bool)
-      (is : t ≡ same (span text x.first x.end) (span text y.first y.end)) where
-    alike_turn : same_names (atoms_from text a) (atoms_from text b)
-        ≡ (t && same_names (atoms_from text n) (atoms_from text m))
+module _ {text : List ℕ} {a b i j : ℕ} (g : Comparing text a b i j) where
+  module _ {x : Word} (p : Atoms text i (Some x)) where
+    module _ {y : Word} (q : Atoms text j (Some y)) (t : Bool)
+        (is : t ≡ same (span text x.first x.end) (span text y.first y.end)) where
+      alike_turn : same_names (atoms_from text a) (atoms_from text b)
+          ≡ (t && same_names (atoms_from text x.next) (atoms_from text y.next))
+      unfolding same_names
+      alike_turn = rw (g.whole, atoms-next p, atoms-next q, is)
+
+      pub alike_on : t ≡ true → Comparing text a b x.next y.next
+      alike_on h = record { whole = rw h at alike_turn }
+
+      pub alike_not : t ≡ false → false ≡ same_names (atoms_from text a) (atoms_from text b)
+      alike_not h = sym (rw h at alike_turn)
+
+    pub alike_longer : Atoms text j None → false ≡ same_names (atoms_from text a) (atoms_from text b)
     unfolding same_names
-    alike_turn = rw (g.whole, atoms-next p n e, atoms-next q m f, is)
+    alike_longer q = rw (g.whole, atoms-next p, atoms-none q)
 
-    pub alike_on : t ≡ true → Comparing text a b n m
-    alike_on h = record { whole = rw h at alike_turn }
+  module _ (p : Atoms text i None) where
+    pub alike_shorter : {y : Word} → Atoms text j (Some y)
+        → false ≡ same_names (atoms_from text a) (atoms_from text b)
+    unfolding same_names
+    alike_shorter q = rw (g.whole, atoms-none p, atoms-next q)
 
-    pub alike_not : t ≡ false → false ≡ same_names (atoms_from text a) (atoms_from text b)
-    alike_not h = sym (rw h at alike_turn)
-
-  pub alike_longer : (n : ℕ) → x.place ≡ At n → y.place ≡ Outside
-      → false ≡ same_names (atoms_from text a) (atoms_from text b)
-  unfolding same_names
-  alike_longer n e f = rw (g.whole, atoms-next p n e, atoms-none q f)
-
-  pub alike_shorter : x.place ≡ Outside → (m : ℕ) → y.place ≡ At m
-      → false ≡ same_names (atoms_from text a) (atoms_from text b)
-  unfolding same_names
-  alike_shorter e m f = rw (g.whole, atoms-none p e, atoms-next q m f)
-
-  pub alike_end : x.place ≡ Outside → y.place ≡ Outside → true ≡ same_names (atoms_from text a) (atoms_from text b)
-  unfolding same_names
-  alike_end e f = rw (g.whole, atoms-none p e, atoms-none q f)
+    pub alike_end : Atoms text j None → true ≡ same_names (atoms_from text a) (atoms_from text b)
+    unfolding same_names
+    alike_end q = rw (g.whole, atoms-none p, atoms-none q)

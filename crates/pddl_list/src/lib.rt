@@ -4,13 +4,15 @@
 
 #![tactic(auto)]
 
-ghost use Rattle.std.specs.Prelude.{◌≡◌, ◌≤◌, ◌*◌, length};
+ghost use Rattle.std.specs.Prelude.{◌≡◌, ◌≤◌, length};
 ghost use Rattle.semantics.specs.Base.{all_of};
 ghost use Rattle.semantics.specs.Pddl.{is_in, same_names, none_twice};
 ghost use Rattle.pddl_theory.specs.Inner.Limits.{most_facts};
 ghost use Rattle.pddl_name.specs.Inner.Table.{names_in, Spans};
 ghost use Rattle.pddl_form.specs.Inner.Place.{atoms_from};
 ghost use Rattle.pddl_list.specs.Inner.Table.{Tabled};
+
+use pddl_name::Span;
 
 // How many names stand in the table, and the offset from which the others stand.
 #[derive(Clone, Copy)]
@@ -25,19 +27,11 @@ pub fn count(text: &[u8], at: usize) -> usize
 {
     let mut n = 0;
     let mut i = at;
-    loop {
-        let a = pddl_form::atom_at(text, pddl_form::Place::At(i));
-        let behind = a.place;
-        match behind {
-            pddl_form::Place::At(next) => {
-                n += 1;
-                i = next;
-            }
-            pddl_form::Place::Outside => {
-                return n;
-            }
-        }
+    while let Some(a) = pddl_form::atom_at(text, i) {
+        n += 1;
+        i = a.next;
     }
+    n
 }
 
 // Are the atoms from one offset on the same, in order, as those from another on?
@@ -48,32 +42,17 @@ pub fn alike(text: &[u8], a: usize, b: usize) -> bool
     let mut i = a;
     let mut j = b;
     loop {
-        let x = pddl_form::atom_at(text, pddl_form::Place::At(i));
-        let y = pddl_form::atom_at(text, pddl_form::Place::At(j));
-        let x_place = x.place;
-        let y_place = y.place;
-        match x_place {
-            pddl_form::Place::At(n) => match y_place {
-                pddl_form::Place::At(m) => {
-                    if pddl_name::same(text, x.first, x.end, text, y.first, y.end) {
-                        i = n;
-                        j = m;
-                    } else {
-                        return false;
-                    }
-                }
-                pddl_form::Place::Outside => {
+        match (pddl_form::atom_at(text, i), pddl_form::atom_at(text, j)) {
+            (Some(x), Some(y)) => {
+                if !pddl_name::same(text, x.first, x.end, text, y.first, y.end) {
                     return false;
                 }
-            },
-            pddl_form::Place::Outside => match y_place {
-                pddl_form::Place::At(m) => {
-                    return false; // the second has more
-                }
-                pddl_form::Place::Outside => {
-                    return true;
-                }
-            },
+                i = x.next;
+                j = y.next;
+            }
+            (Some(_), None) => return false,
+            (None, Some(_)) => return false, // the second has more
+            (None, None) => return true,
         }
     }
 }
@@ -83,43 +62,24 @@ pub fn distinct(text: &[u8], at: usize) -> bool
     ensures { result ≡ none_twice (atoms_from text.now at) }
 {
     let mut i = at;
-    loop {
-        let a = pddl_form::atom_at(text, pddl_form::Place::At(i));
-        let first = a.first;
-        let end = a.end;
-        let behind = a.place;
-        match behind {
-            pddl_form::Place::At(n) => {
-                if pddl_form::stands(text, n, first, end) {
-                    return false;
-                } else {
-                    i = n;
-                }
-            }
-            pddl_form::Place::Outside => {
-                return true;
-            }
+    while let Some(a) = pddl_form::atom_at(text, i) {
+        if pddl_form::stands(text, a.next, a.first, a.end) {
+            return false;
         }
+        i = a.next;
     }
+    true
 }
 
 // Is none of the names of a table there twice?
-pub fn distinct_in(text: &[u8], spans: &[usize]) -> bool
+pub fn distinct_in(text: &[u8], spans: &[Span]) -> bool
     requires { Spans (length text.now) spans.now }
     ensures { result ≡ none_twice (names_in text.now spans.now) }
 {
-    let mut i = 0;
-    while i + 1 < spans.len() {
-        let first = spans[i];
-        let end = spans[i + 1];
-        let f = pddl_name::lookup(text, &spans[i + 2..], first, end);
-        match f {
-            pddl_name::Found::At(k) => {
-                return false;
-            }
-            pddl_name::Found::Absent => {
-                i += 2;
-            }
+    for (k, part) in spans.iter().enumerate() {
+        let again = pddl_name::lookup(text, &spans[k + 1..], part.first, part.end);
+        if again.is_some() {
+            return false;
         }
     }
     true
@@ -131,48 +91,33 @@ pub fn covered(text: &[u8], a: usize, b: usize) -> bool
         (atoms_from text.now a) }
 {
     let mut i = a;
-    loop {
-        let x = pddl_form::atom_at(text, pddl_form::Place::At(i));
-        let first = x.first;
-        let end = x.end;
-        let behind = x.place;
-        match behind {
-            pddl_form::Place::At(n) => {
-                if pddl_form::stands(text, b, first, end) {
-                    i = n;
-                } else {
-                    return false;
-                }
-            }
-            pddl_form::Place::Outside => {
-                return true;
-            }
+    while let Some(x) = pddl_form::atom_at(text, i) {
+        if !pddl_form::stands(text, b, x.first, x.end) {
+            return false;
         }
+        i = x.next;
     }
+    true
 }
 
-// The first atoms from an offset on, at most 128, go into the table: of each its first offset and
-// the one behind it.
-pub fn fill(text: &[u8], at: usize, spans: &mut [usize]) -> Table
-    requires { 2 * most_facts ≤ length spans.old }
+// The first atoms from an offset on, at most 128, go into the table.
+pub fn fill(text: &[u8], at: usize, spans: &mut [Span]) -> Table
+    requires { most_facts ≤ length spans.old }
     ensures { Tabled text.now at spans.new result }
 {
-    let mut n = 0;
     let mut i = at;
-    while n < pddl_words::MOST_FACTS {
-        let a = pddl_form::atom_at(text, pddl_form::Place::At(i));
-        let behind = a.place;
-        match behind {
-            pddl_form::Place::At(next) => {
-                spans[2 * n] = a.first;
-                spans[2 * n + 1] = a.end;
-                n += 1;
-                i = next;
-            }
-            pddl_form::Place::Outside => {
-                return Table { count: n, more: i };
-            }
-        }
+    for n in 0..pddl_words::MOST_FACTS {
+        let Some(a) = pddl_form::atom_at(text, i) else {
+            return Table { count: n, more: i };
+        };
+        spans[n] = Span {
+            first: a.first,
+            end: a.end,
+        };
+        i = a.next;
     }
-    Table { count: n, more: i }
+    Table {
+        count: pddl_words::MOST_FACTS,
+        more: i,
+    }
 }

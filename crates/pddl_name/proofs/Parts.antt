@@ -3,29 +3,32 @@ use mathlib.Core.Path.{◌≡◌, refl, sym, ap, ◌∙◌}
 use mathlib.Core.Bool.{Bool, true, false, not, ◌&&◌}
 use mathlib.Core.List.{List, [], ◌∷◌}
 use Prim.Native.Nat.{ℕ, ◌+◌, ◌-◌, ◌≤◌, ◌<◌}
+use native.Mathlib.Nat.{add-zero}
 use native.Mathlib.Numerals.{add-one}
 use native.Mathlib.Omega.{arith}
 use lib.ListN.{length, take, get_or, length-map, get_or-map, drop_of_length-le, length-take}
 use lib.Dec.{eqb, leb}
 use lib.Seq.{slice, slice-cons, length-slice, get_or-take, get_or-drop}
-use borrow.Author.Tests.{eq-eqb, ne_eqb, leb-true, leb-false}
+use borrow.Author.Tests.{eq-eqb, ne_eqb, leb-true, leb-false, le-leb, lt-leb}
+use Rattle.std.specs.Char.{LowercasesTo}
+use Rattle.std.specs.Int.{IsInRange, IsOutOfRange}
+use mathlib.Core.Logic.{⊎_elim}
 use Rattle.semantics.specs.Base.{all_of}
-use Rattle.semantics.specs.Task.{between}
 use Rattle.semantics.specs.Pddl.{small, same, is_letter, is_name, and', not'}
-use Rattle.theory.proofs.Lists.{and_elim, not-true-false}
+use Rattle.theory.proofs.Lists.{not-true-false}
 use Rattle.pddl_theory.specs.Inner.Place.{span}
 use Rattle.pddl_theory.proofs.Sets.{same-eq}
 
-pub capital_below : (b : ℕ) → between 65 b 90 ≡ true → b ≤ 90
-capital_below b h = leb-true b 90 (and_elim (leb 65 b) (leb b 90) h).1
-
-pub small_capital : (b : ℕ) → between 65 b 90 ≡ true → b + 32 ≡ small b
+pub lowered : (b r : ℕ) → LowercasesTo b r → r ≡ small b
 unfolding small
-small_capital b h = rw h
-
-pub small-other : (b : ℕ) → between 65 b 90 ≡ false → b ≡ small b
-unfolding small
-small-other b h = rw h
+lowered b r h =
+    ⊎_elim
+    (λ (p : IsInRange 65 90 b × (r ≡ b + 32)).
+    p.1 ∙ rw (le-leb 65 b (omega (arith, p.0)), le-leb b 90 (omega (arith, p.0))))
+    (λ (p : IsOutOfRange 65 90 b × (r ≡ b)).
+    p.1
+    ∙ ⊎_elim (λ (l : b < 65). rw (lt-leb 65 b l)) (λ (l : 90 < b). rw (le-leb 65 b (omega arith), lt-leb b 90 l)) p.0)
+    h
 
 pub span_nil : (text : List ℕ) (i e : ℕ) → e ≤ i → span text i e ≡ []
 span_nil text i e h =
@@ -43,40 +46,48 @@ unfolding same
 end_test text j u l true q = rw (span_nil text j u (leb-true u j q))
 end_test text j u l false q = rw (span-cons text j u (leb-false u j q) l)
 
--- the two parts agree up to i and j
-pub record Agree (text : List ℕ) (s e : ℕ) (other : List ℕ) (t u i j : ℕ) : Type 0 where
-  pub whole : same (span text s e) (span other t u) ≡ same (span text i e) (span other j u)
+-- the two parts agree in their first i bytes
+pub record Agree (text : List ℕ) (s e : ℕ) (other : List ℕ) (t u i : ℕ) : Type 0 where
+  pub whole : same (span text s e) (span other t u) ≡ same (span text (s + i) e) (span other (t + i) u)
 
-pub agree-begin : (text : List ℕ) (s e : ℕ) (other : List ℕ) (t u : ℕ) → Agree text s e other t u s t
-agree-begin text s e other t u = record { whole = refl }
+pub agree-begin : (text : List ℕ) (s e : ℕ) (other : List ℕ) (t u : ℕ) → Agree text s e other t u 0
+agree-begin text s e other t u = record { whole = rw (add-zero s, add-zero t) }
 
-module _ {text : List ℕ} {s e : ℕ} {other : List ℕ} {t u i j : ℕ} (g : Agree text s e other t u i j) where
-  module _ (hi : i < e) (le : e ≤ length text) where
-    pub shorter : u ≤ j → false ≡ same (span text s e) (span other t u)
+module _ {text : List ℕ} {s e : ℕ} {other : List ℕ} {t u i : ℕ} (g : Agree text s e other t u i) (le : e ≤ length text)
+    (lu : u ≤ length other) (same-long : e - s ≡ u - t) where
+  module _ (h : i < e - s) (a b : ℕ) (is-a : a ≡ small (get_or text (s + i) 0))
+      (is_b : b ≡ small (get_or other (t + i) 0)) where
+    both : same (span text s e) (span other t u)
+        ≡ (eqb a b && same (span text (s + i + 1) e) (span other (t + i + 1) u))
     unfolding same
-    shorter h = rw (g.whole, span_nil other j u h, span-cons text i e hi le)
+    both =
+        let hi : s + i < e = omega arith in
+        let hj : t + i < u = omega arith in
+        rw (g.whole, span-cons text (s + i) e hi le, span-cons other (t + i) u hj lu, is-a, is_b)
 
-    module _ (hj : j < u) (lu : u ≤ length other) (a b : ℕ) (is-a : a ≡ small (get_or text i 0))
-        (is_b : b ≡ small (get_or other j 0)) where
-      both : same (span text s e) (span other t u) ≡ (eqb a b && same (span text (i + 1) e) (span other (j + 1) u))
-      unfolding same
-      both = rw (g.whole, span-cons text i e hi le, span-cons other j u hj lu, is-a, is_b)
+    pub differ : (a ≡ b → ⊥) → false ≡ same (span text s e) (span other t u)
+    differ n = rw (both, ne_eqb a b n)
 
-      pub differ : (a ≡ b → ⊥) → false ≡ same (span text s e) (span other t u)
-      differ n = rw (both, ne_eqb a b n)
+    pub agree_on : a ≡ b → Agree text s e other t u (i + 1)
+    agree_on q =
+        let l : s + (i + 1) ≡ s + i + 1 = omega arith in
+        let m : t + (i + 1) ≡ t + i + 1 = omega arith in
+        record { whole = rw (both, eq-eqb a b q, l, m) }
 
-      pub agree_on : a ≡ b → Agree text s e other t u (i + 1) (j + 1)
-      agree_on q = record { whole = rw (both, eq-eqb a b q) }
-
-  pub agree-end : e ≤ i → u ≤ length other → leb u j ≡ same (span text s e) (span other t u)
-  agree-end hi lu = rw (g.whole, span_nil text i e hi) (end_test other j u lu (leb u j) refl)
+  pub agree-end : e - s ≤ i → true ≡ same (span text s e) (span other t u)
+  unfolding same
+  agree-end h =
+      let hi : e ≤ s + i = omega arith in
+      let hj : u ≤ t + i = omega arith in
+      rw (g.whole, span_nil text (s + i) e hi, span_nil other (t + i) u hj)
 
 -- parts are told apart by their lengths, or by their last bytes
 
 span-length : (text : List ℕ) (s e : ℕ) → e ≤ length text → length (span text s e) ≡ e - s
 span-length text s e l = length-map (slice s e text) small ∙ length-slice s e text l
 
-span_last : (text : List ℕ) (s e : ℕ) → s < e → get_or (span text s e) (e - s - 1) (small 0) ≡ small (get_or text (e - 1) 0)
+span_last : (text : List ℕ) (s e : ℕ) → s < e → get_or (span text s e) (e - s - 1) (small 0)
+    ≡ small (get_or text (e - 1) 0)
 span_last text s e h =
     let k : s + (e - s - 1) ≡ e - 1 = omega arith in
     let l : e - 1 < e = omega arith in
@@ -89,11 +100,12 @@ module _ (text : List ℕ) (s e : ℕ) (other : List ℕ) (t u : ℕ) where
 
   -- the first part is empty, or only the second is
   pub none_here : e ≤ s → u ≤ length other → leb u t ≡ same (span text s e) (span other t u)
-  none_here h l = agree-end (agree-begin text s e other t u) h l
+  none_here h l = rw (span_nil text s e h) (end_test other t u l (leb u t) refl)
 
   module _ (h : s < e) (le : e ≤ length text) where
     pub none-there : u ≤ t → false ≡ same (span text s e) (span other t u)
-    none-there k = shorter (agree-begin text s e other t u) h le k
+    unfolding same
+    none-there k = rw (span_nil other t u k, span-cons text s e h le)
 
     module _ (k : t < u) (lu : u ≤ length other) where
       pub lengths_differ : (e - s ≡ u - t → ⊥) → false ≡ same (span text s e) (span other t u)
@@ -101,7 +113,8 @@ module _ (text : List ℕ) (s e : ℕ) (other : List ℕ) (t u : ℕ) where
           n (sym (span-length text s e le) ∙ ap length (same-eq (span text s e) (span other t u) q)
           ∙ span-length other t u lu)
 
-      pub lasts_differ : e - s ≡ u - t → (a b : ℕ) → a ≡ small (get_or text (e - 1) 0) → b ≡ small (get_or other (u - 1) 0)
+      pub lasts_differ : e - s ≡ u - t → (a b : ℕ) → a ≡ small (get_or text (e - 1) 0)
+          → b ≡ small (get_or other (u - 1) 0)
           → (a ≡ b → ⊥) → false ≡ same (span text s e) (span other t u)
       lasts_differ p a b is-a is_b n = apart_by λ q.
           let i : e - s - 1 ≡ u - t - 1 = omega arith in

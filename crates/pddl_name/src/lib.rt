@@ -10,45 +10,22 @@ ghost use Rattle.semantics.specs.Pddl.{is_letter, is_name, small};
 ghost use Rattle.pddl_theory.specs.Inner.Place.{span};
 ghost use Rattle.pddl_name.specs.Inner.Table.{names_in, Spans, Looked};
 
-// Where a word stands in a table.
-#[derive(Clone, Copy)]
-pub enum Found {
-    At(usize),
-    Absent,
+// A word of a text: its first offset and the one behind it.
+#[derive(Clone, Copy, Default)]
+pub struct Span {
+    pub first: usize,
+    pub end: usize,
 }
 
 // A capital letter as a small one, any other byte as it is.
 pub fn to_small(b: u8) -> u8
     ensures { result ≡ small b }
 {
-    if (b'A' <= b) & (b <= b'Z') { b + 32 } else { b }
-}
-
-// Is the part s..e of a text the part t..u of another, byte by byte, letter case apart?
-fn same_bytes(text: &[u8], s: usize, e: usize, other: &[u8], t: usize, u: usize) -> bool
-    requires { (e ≤ length text.now) × (u ≤ length other.now) }
-    ensures { result ≡ Pddl.same (span text.now s e)
-        (span other.now t u) }
-{
-    let mut i = s;
-    let mut j = t;
-    while i < e {
-        if u <= j {
-            return false;
-        }
-        let a = to_small(text[i]);
-        let b = to_small(other[j]);
-        if a != b {
-            return false;
-        }
-        i += 1;
-        j += 1;
-    }
-    u <= j
+    b.to_ascii_lowercase()
 }
 
 // Is the part s..e of a text the same word as the part t..u of another? Parts of other lengths or
-// with other last bytes are told apart before any loop.
+// with other last bytes are told apart before the loop.
 pub fn same(text: &[u8], s: usize, e: usize, other: &[u8], t: usize, u: usize) -> bool
     requires { (e ≤ length text.now) × (u ≤ length other.now) }
     ensures { result ≡ Pddl.same (span text.now s e)
@@ -66,13 +43,18 @@ pub fn same(text: &[u8], s: usize, e: usize, other: &[u8], t: usize, u: usize) -
     if to_small(text[e - 1]) != to_small(other[u - 1]) {
         return false;
     }
-    same_bytes(text, s, e, other, t, u)
+    for i in 0..e - s {
+        if to_small(text[s + i]) != to_small(other[t + i]) {
+            return false;
+        }
+    }
+    true
 }
 
 fn letter(b: u8) -> bool
     ensures { result ≡ is_letter b }
 {
-    ((b'a' <= b) & (b <= b'z')) | ((b'A' <= b) & (b <= b'Z'))
+    b.is_ascii_alphabetic()
 }
 
 // Has the part no colon?
@@ -80,12 +62,10 @@ fn no_colon(text: &[u8], s: usize, e: usize) -> bool
     requires { e ≤ length text.now }
     ensures { result ≡ all_of (λ c. not (eqb c 58)) (span text.now s e) }
 {
-    let mut i = s;
-    while i < e {
+    for i in s..e {
         if to_small(text[i]) == b':' {
             return false;
         }
-        i += 1;
     }
     true
 }
@@ -104,23 +84,15 @@ pub fn is_name(text: &[u8], s: usize, e: usize) -> bool
         & !same(text, s, e, b"not", 0, 3)
 }
 
-// The first place of the part s..e of a text in a table of parts: their first offsets and those
-// behind them.
-pub fn lookup(text: &[u8], spans: &[usize], s: usize, e: usize) -> Found
+// The first place of the part s..e of a text in a table of parts.
+pub fn lookup(text: &[u8], spans: &[Span], s: usize, e: usize) -> Option<usize>
     requires { Spans (length text.now) spans.now × (e ≤ length text.now) }
-    ensures { Looked (names_in text.now spans.now)
-        (span text.now s e) result }
+    ensures { Looked (names_in text.now spans.now) (span text.now s e) result }
 {
-    let mut i = 0;
-    let mut k = 0;
-    while i + 1 < spans.len() {
-        let a = spans[i];
-        let b = spans[i + 1];
-        if same(text, s, e, text, a, b) {
-            return Found::At(k);
+    for (k, part) in spans.iter().enumerate() {
+        if same(text, s, e, text, part.first, part.end) {
+            return Some(k);
         }
-        i += 2;
-        k += 1;
     }
-    Found::Absent
+    None
 }

@@ -1,6 +1,6 @@
 -- Members that agree with what all share.
 use mathlib.Core.Path.{◌≡◌, refl, sym, ap, ◌∙◌}
-use mathlib.Core.Bool.{Bool, true, false, ◌&&◌, and_assoc}
+use mathlib.Core.Bool.{Bool, true, false, not, ◌&&◌, and_assoc}
 use mathlib.Core.List.{List, ◌++◌, append-nil}
 use Prim.Native.Nat.{ℕ, ◌≤◌}
 use lib.Dec.{eqb}
@@ -10,21 +10,30 @@ use Rattle.mask.specs.Number.{number}
 use Rattle.pddl_theory.specs.Inner.Limits.{most_facts}
 use Rattle.pddl_theory.specs.Inner.Place.{span}
 use Rattle.pddl_theory.proofs.Sets.{same_set_lem, same_set-refl}
+use Rattle.pddl_name.specs.declared.Span.{Span}
 use Rattle.pddl_name.specs.Inner.Table.{names_in}
-use Rattle.pddl_form.specs.declared.Place.TheVariants.{At, Outside}
+use Rattle.std.specs.Prelude.{Some, None}
 use Rattle.pddl_form.specs.Inner.Place.{atoms_from}
 use Rattle.pddl_section.specs.Inner.Section.{member_of, members_from, Members}
 use Rattle.pddl_acts.specs.declared.Own.{Own}
 use Rattle.pddl_acts.specs.Inner.Names.{called_from}
 use Rattle.pddl_acts.specs.Inner.Own.{all_known, OwnIn}
 use Rattle.pddl_section.specs.declared.Member.{Member}
-use Rattle.pddl_section.specs.declared.Problem.{Problem}
-use Rattle.pddl_section.specs.declared.Domain.{Domain}
 use Rattle.pddl_section.proofs.Lists.{members-next, members-none}
 use Rattle.pddl_named.specs.declared.Common.{Common}
 use Rattle.pddl_named.specs.declared.Facts.{Facts}
 use Rattle.pddl_named.specs.Inner.Common.{FactsOf, CommonIn}
 use Rattle.pddl_named.specs.Inner.Rows.{GoalIn, MemberIn}
+
+-- ---- a test that is turned round
+
+pub not-false : (b : Bool) → not b ≡ false → b ≡ true
+not-false true h = refl
+not-false false h = sym h
+
+pub not-true : (b : Bool) → not b ≡ true → b ≡ false
+not-true true h = sym h
+not-true false h = refl
 
 -- ---- initial facts
 
@@ -33,7 +42,7 @@ agree text c at =
     all_of (is_in (atoms_from text c.predicates)) (atoms_from text at)
     && same_set (atoms_from text at) (atoms_from text c.initially)
 
-module _ {text spans : List ℕ} {c : Common} (x : CommonIn text spans c) (at : ℕ) (f : Facts)
+module _ {text : List ℕ} {spans : List Span} {c : Common} (x : CommonIn text spans c) (at : ℕ) (f : Facts)
     (y : FactsOf text spans c.more at f) where
   known-here : f.known ≡ all_of (is_in (atoms_from text c.predicates)) (atoms_from text at)
   known-here = y.names ∙ rw (← x.whole)
@@ -51,7 +60,7 @@ module _ {text spans : List ℕ} {c : Common} (x : CommonIn text spans c) (at : 
     facts-by-mask l r is =
         let P : List (List ℕ) = names_in text spans in
         let here : all_of (is_in P) (atoms_from text at) ≡ true = rw (names_in_table l) at (sym known-here ∙ h) in
-        let first : all_of (is_in P) (atoms_from text c.initially) ≡ true = rw (names_in_table l) at x.known in
+        let first : all_of (is_in P) (atoms_from text c.initially) ≡ true = rw (names_in_table l) at x.all_known in
         is ∙ rw (← known-here, h, y.mask, x.mask) (same_set_lem P (atoms_from text at)
         (atoms_from text c.initially) here first)
 
@@ -60,48 +69,45 @@ module _ {text spans : List ℕ} {c : Common} (x : CommonIn text spans c) (at : 
     facts-by-name a b is-a is_b = rw (← known-here, h, is-a, is_b)
 
 -- the first member's own
-pub facts-first : {text spans : List ℕ} {c : Common} → CommonIn text spans c → (at : ℕ) → at ≡ c.initially
+pub facts-first : {text : List ℕ} {spans : List Span} {c : Common} → CommonIn text spans c → (at : ℕ) → at ≡ c.initially
     → true ≡ agree text c at
-facts-first {text} {spans} {c} x at e = sym (rw (e, x.known, same_set-refl (atoms_from text c.initially)))
+facts-first {text} {spans} {c} x at e = sym (rw (e, x.all_known, same_set-refl (atoms_from text c.initially)))
 
 -- ---- a member
 
 regroup : (a s e f g : Bool) → s ≡ (e && f) → ((a && s) && g) ≡ (((a && e) && f) && g)
 regroup a s e f g is = rw is (ap (λ (b : Bool). b && g) (sym (and_assoc a e f)))
 
-module _ {text spans : List ℕ} {c : Common} (x : CommonIn text spans c) (m : Member) (dom : Domain) (prob : Problem)
-    (is-dom : dom ≡ m.domain) (is-prob : prob ≡ m.problem) where
+module _ {text : List ℕ} {spans : List Span} {c : Common} (x : CommonIn text spans c) (m : Member) where
   abbrev P : List (List ℕ)
   P = atoms_from text c.predicates
 
   pub well-named : {masks table₀ : List ℕ} {owner first : ℕ} {table goals₀ goals : List ℕ} (o : Own)
-      → OwnIn text spans c.more masks table₀ dom.actions owner first table o
-      → (a n s g : Bool) → a ≡ same_names (atoms_from text dom.predicates) P
-      → n ≡ same (span text prob.first prob.end) (span text dom.first dom.end)
-      → s ≡ agree text c prob.initially → GoalIn text spans c.more prob.goal goals₀ owner goals g
+      → OwnIn text spans c.more masks table₀ m.domain.actions owner first table o
+      → (a n s g : Bool) → a ≡ same_names (atoms_from text m.domain.predicates) P
+      → n ≡ same (span text m.problem.first m.problem.end) (span text m.domain.first m.domain.end)
+      → s ≡ agree text c m.problem.initially → GoalIn text spans c.more m.problem.goal goals₀ owner goals g
       → MemberIn text spans c m masks table₀ goals₀ owner first table goals
       (record { count = o.count; named = (((a && o.named) && n) && s) && g })
   unfolding well_named
   well-named o y a n s g is-a is-n is-s z =
-      let acts : Bool = none_twice (called_from text dom.actions) in
-      let known : Bool = all_known text spans c.more dom.actions in
+      let acts : Bool = none_twice (called_from text m.domain.actions) in
+      let known : Bool = all_known text spans c.more m.domain.actions in
       record {
-        number = y.number ∙ rw is-dom;
-        names = regroup ((a && o.named) && n) s (all_of (is_in P) (atoms_from text prob.initially))
-            (same_set (atoms_from text prob.initially) (atoms_from text c.initially)) g is-s
+        number = y.number;
+        names = regroup ((a && o.named) && n) s (all_of (is_in P) (atoms_from text m.problem.initially))
+            (same_set (atoms_from text m.problem.initially) (atoms_from text c.initially)) g is-s
             ∙ rw (
               is-a,
               y.names,
-              sym (and_assoc (same_names (atoms_from text dom.predicates) P) acts known),
+              sym (and_assoc (same_names (atoms_from text m.domain.predicates) P) acts known),
               is-n,
               z.names,
               ← x.whole,
-              is-dom,
-              is-prob,
             );
-        rows_in = rw (← is-dom) y.rows_in;
+        rows_in = y.rows_in;
         goal = g;
-        goal_in = rw (← is-prob) z;
+        goal_in = z;
       }
 
 -- ---- all members
@@ -112,23 +118,19 @@ pub record Agreeing (text : List ℕ) (P I : List (List ℕ)) (i : ℕ) : Type 0
 pub agreeing-begin : (text : List ℕ) (P I : List (List ℕ)) → Agreeing text P I 0
 agreeing-begin text P I = record { whole = refl }
 
-module _ {text : List ℕ} {P I : List (List ℕ)} {i : ℕ} (g : Agreeing text P I i) (m : Member) (x : Members text i m)
-    (p : Problem) (is : p ≡ m.problem) where
-  module _ (n : ℕ) (e : p.place ≡ At n) (b : Bool) (named : b ≡ well_named P I (member_of text m)) where
-    turn : all_of (well_named P I) (members_from text 0) ≡ (b && all_of (well_named P I) (members_from text n))
+module _ {text : List ℕ} {P I : List (List ℕ)} {i : ℕ} (g : Agreeing text P I i) where
+  module _ {m : Member} (x : Members text i (Some m)) (b : Bool) (named : b ≡ well_named P I (member_of text m)) where
+    turn : all_of (well_named P I) (members_from text 0)
+        ≡ (b && all_of (well_named P I) (members_from text m.problem.next))
     unfolding all_of
-    turn =
-        let q : m.problem.place ≡ At n = ap (λ (r : Problem). r.place) (sym is) ∙ e in
-        rw (g.whole, members-next x n q, named)
+    turn = rw (g.whole, members-next x, named)
 
     pub agreeing-not : b ≡ false → false ≡ all_of (well_named P I) (members_from text 0)
     agreeing-not h = sym (rw h at turn)
 
-    pub agreeing-on : b ≡ true → Agreeing text P I n
+    pub agreeing-on : b ≡ true → Agreeing text P I m.problem.next
     agreeing-on h = record { whole = rw h at turn }
 
-  pub agreeing-end : p.place ≡ Outside → true ≡ all_of (well_named P I) (members_from text 0)
+  pub agreeing-end : Members text i None → true ≡ all_of (well_named P I) (members_from text 0)
   unfolding all_of
-  agreeing-end e =
-      let q : m.problem.place ≡ Outside = ap (λ (r : Problem). r.place) (sym is) ∙ e in
-      rw (g.whole, members-none x q)
+  agreeing-end x = rw (g.whole, members-none x)

@@ -21,14 +21,14 @@ pub fn reader_at<'a>(text: &'a [u8], at: usize) -> Reader<'a>
 }
 
 // The member that stands next.
-pub fn member<'a>(r: Reader<'a>) -> pddl_section::Member
+pub fn member<'a>(r: Reader<'a>) -> Option<pddl_section::Member>
     ensures { Members r.entry.text.now r.entry.at result }
 {
     pddl_section::member_at(r.text, r.at)
 }
 
 // A member from an offset on. Its parameters are plain.
-pub fn member_at(text: &[u8], at: usize) -> pddl_section::Member
+pub fn member_at(text: &[u8], at: usize) -> Option<pddl_section::Member>
     ensures { Members text.now at result }
 {
     member(reader_at(text, at))

@@ -1,39 +1,40 @@
--- The readers of sections, step by step.
-use mathlib.Core.Path.{◌≡◌, refl, sym, ap, ◌∙◌}
-use mathlib.Core.Bool.{Bool, true, false, ◌&&◌}
+-- The readers of sections, step by step: what is read by each, or that none is there.
+use mathlib.Core.Path.{◌≡◌, refl, sym, ap}
+use mathlib.Core.Bool.{true, false, ◌&&◌}
 use mathlib.Core.List.{List, [], ◌∷◌, ◌++◌}
 use Prim.Native.Nat.{ℕ}
-use lib.ListN.{length}
-use Rattle.semantics.specs.Pddl as Pddl
-use Rattle.semantics.specs.Pddl.{Token, opening, closing, word, stray, Parsed, parsed, ◌then◌, many, same_token}
-use Rattle.semantics.specs.Pddl.{expect, name, atom}
+use native.Mathlib.Omega.{arith}
+use Rattle.std.specs.Prelude.{Option, Some, None}
+use Rattle.semantics.specs.Pddl.{Token, opening, closing, word, stray, Parsed, outside, parsed, ◌then◌, many}
+use Rattle.semantics.specs.Pddl.{same_token}
+use Rattle.semantics.specs.Pddl.{expect, atom, tokens}
 use Rattle.semantics.specs.Pddl.{define', domain', problem', :predicates, :action, :parameters, :precondition, :effect}
-use Rattle.semantics.specs.Pddl.{:domain, :init, :goal, Literal, formula, depth, action, domain, problem, member}
-use Rattle.pddl_theory.specs.Inner.Place.{rest, span}
-use Rattle.pddl_theory.proofs.Chain.{via, then-then}
-use Rattle.pddl_form.specs.declared.Place.{Place}
-use Rattle.pddl_form.specs.declared.Place.TheVariants.{At, Outside}
+use Rattle.semantics.specs.Pddl.{:domain, :init, :goal, formula, depth, action, domain, problem, member}
+use Rattle.pddl_theory.specs.Inner.Place.{rest, leaves, items}
+use Rattle.pddl_name.specs.declared.Span.{Span}
 use Rattle.pddl_form.specs.declared.Word.{Word}
-use Rattle.pddl_form.specs.Inner.Place.{offset_of, left, atoms_from, Expects, Closes, Names, AtomsEnd}
-use Rattle.pddl_form.proofs.Steps.{expect-step, name-step, list_step, list_step-at, behind-from}
-use Rattle.pddl_form.proofs.Tokens.{behind-behind}
+use Rattle.pddl_form.specs.Inner.Place.{left, atoms_from, Expects, Closes, Names, AtomsEnd}
 use Rattle.pddl_formula.specs.declared.Literals.{Literals}
 use Rattle.pddl_formula.specs.Inner.Formula.{Goes}
-use Rattle.pddl_section.specs.Inner.Section.{literals_at, FormulaEnds, action_of, Acts, Masked, actions_from}
-use Rattle.pddl_section.specs.Inner.Section.{ActionsEnd}
-use Rattle.pddl_section.specs.Inner.Section.{domain_of, Domains, problem_of, Problems, member_of, Members}
-use Rattle.mask.specs.declared.Mask.{Mask}
+use Rattle.pddl_formula.proofs.Openings.{none_read, left-same}
+use Rattle.pddl_section.specs.Inner.Section.{literals_at, Acts, Masked, actions_from, ActionsEnd}
+use Rattle.pddl_section.specs.Inner.Section.{Domains, Problems, Members}
 use Rattle.pddl_section.specs.declared.Act.{Act}
 use Rattle.pddl_section.specs.declared.Domain.{Domain}
 use Rattle.pddl_section.specs.declared.Problem.{Problem}
-use Rattle.pddl_section.proofs.Lists.{formula-ends}
 use Rattle.pddl_section.proofs.Patterns.{action-opening, parameters, effect-word, domain-opening}
 use Rattle.pddl_section.proofs.Patterns.{problem-opening}
 use Rattle.pddl_section.proofs.Patterns.{predicates-opening, domain-naming, init-opening, goal-opening}
 
-close_step : (text : List ℕ) {B : Type 0} (p r : Place) (k : List Token → Parsed B) → Closes text p r
-    → (left text p then λ _ ts. expect (closing ∷ []) ts then λ _ us. k us) ≡ (left text r then λ _ ts. k ts)
-close_step text p r k x = via (left text p) (λ _ ts. expect (closing ∷ []) ts) (λ _ us. k us) x.same
+-- a list that is read, by what it leaves
+list-is : {A : Type 0} (p : Parsed (List A)) {ts : List Token} → leaves p ≡ parsed tt ts → p ≡ parsed (items p) ts
+list-is outside e = absurd (none_read e)
+list-is (parsed xs us) e = ap (parsed xs) (left-same e)
+
+-- fixed tokens
+expected : {text pattern : List ℕ} {at : ℕ} {r : Option ℕ} {es : List Token} → tokens pattern ≡ es
+    → Expects text at pattern r → expect es (rest text at) ≡ left text r
+expected e x = sym (rw e at x.same)
 
 -- two closing parentheses, one after the other
 two-closing : (ts : List Token) → expect (closing ∷ closing ∷ []) ts
@@ -45,243 +46,406 @@ two-closing (closing ∷ ts) = refl
 two-closing (word w ∷ ts) = refl
 two-closing (stray ∷ ts) = refl
 
-close_two : (text : List ℕ) {B : Type 0} (p q r : Place) (k : List Token → Parsed B) → Closes text p q → Closes text q r
-    → (left text p then λ _ ts. expect (closing ∷ closing ∷ []) ts then λ _ us. k us) ≡ (left text r then λ _ ts. k ts)
-close_two text p q r k x y =
-    via (left text p) (λ _ ts. expect (closing ∷ closing ∷ []) ts) (λ _ us. k us) (both text p q r x y)
-  where
-    both : (text : List ℕ) (p q r : Place) → Closes text p q → Closes text q r
-        → left text r ≡ (left text p then λ _ ts. expect (closing ∷ closing ∷ []) ts)
-    both text Outside q r x y = y.same ∙ rw x.same
-    both text (At n) q r x y = y.same ∙ rw (x.same, two-closing (rest text n))
+-- ---- an action
 
--- ---- an action, behind its effect, behind its precondition, behind its name
-
-abbrev behind_effect : List ℕ → List Literal → List Literal → List Token → Parsed Pddl.Action
-behind_effect n p e ts =
-    expect (closing ∷ []) ts then λ _ ts. parsed (record { called = n; precondition = p; effects = e }) ts
-
-abbrev behind_pre : List ℕ → List Literal → List Token → Parsed Pddl.Action
-behind_pre n p ts = expect (word :effect ∷ []) ts then λ _ ts. formula true depth ts then behind_effect n p
-
-abbrev behind_name : List ℕ → List Token → Parsed Pddl.Action
-behind_name n ts =
-    expect (word :parameters ∷ opening ∷ closing ∷ word :precondition ∷ []) ts then λ _ ts.
-    formula false depth ts then behind_pre n
-
-module _ (text : List ℕ) (p a : Place) (w : Word) (b c d e z : Place)
-    (x-a : Expects text p (40 ∷ :action) a) (x-w : Names text a w)
-    (x-b : Expects text w.place (:parameters ++ (40 ∷ 41 ∷ :precondition)) b) (x-c : FormulaEnds text false b c)
-    (x-d : Expects text c :effect d) (x-e : FormulaEnds text true d e) (x-z : Closes text e z)
-    (needs adds dels : Mask) (known : Bool) where
-  abbrev made : Act
-  made =
-      record {
-        first = w.first;
-        end = w.end;
-        precondition = b;
-        effect = d;
-        needs = needs;
-        adds = adds;
-        dels = dels;
-        known = known;
-        place = z;
-      }
-
-  action-same : (left text p then λ _ ts. action ts) ≡ (left text z then λ _ ts. parsed (action_of text made) ts)
+module _ {text : List ℕ} {at : ℕ} where
+  pub action_1 : Expects text at (40 ∷ :action) None → Acts text at None
   unfolding action
-  action-same =
-      expect-step text p _ _ a (λ ts. name ts then behind_name) x-a action-opening
-      ∙ name-step text a w behind_name x-w
-      ∙ expect-step text w.place _ _ b (λ ts. formula false depth ts then behind_pre (span text w.first w.end))
-      x-b parameters
-      ∙ list_step-at text b c (formula false depth) (behind_pre (span text w.first w.end)) x-c.same
-      ∙ expect-step text c _ _ d
-      (λ ts. formula true depth ts then behind_effect (span text w.first w.end) (literals_at text false b)) x-d
-      effect-word
-      ∙ list_step-at text d e (formula true depth)
-      (behind_effect (span text w.first w.end) (literals_at text false b)) x-e.same
-      ∙ close_step text e z (parsed (action_of text made)) x-z
+  action_1 x = record { same = rw (expected action-opening x); onward = tt }
 
-  pub an_action : Acts text p made
-  an_action =
-      let most : ℕ = length text in
-      record {
-        same = sym action-same;
-        within = x-w.within;
-        onward = behind-from most p a z x-a.onward
-            (behind-behind most a w.place z x-w.onward
-            (behind-from most w.place b z x-b.onward
-            (behind-behind most b c z x-c.onward
-            (behind-from most c d z x-d.onward (behind-behind most d e z x-e.onward x-z.onward)))));
-      }
+  module _ {a : ℕ} (x-a : Expects text at (40 ∷ :action) (Some a)) where
+    pub action_2 : Names text a None → Acts text at None
+    unfolding action
+    action_2 x = record { same = rw (expected action-opening x-a, ← x.same); onward = tt }
 
--- the same with the facts that its formulas name
-module _ (text spans : List ℕ) (more : ℕ) (p a : Place) (w : Word) (b : Place) (f : Literals) (d : Place) (g : Literals)
-    (z : Place) (x-a : Expects text p (40 ∷ :action) a) (x-w : Names text a w)
-    (x-b : Expects text w.place (:parameters ++ (40 ∷ 41 ∷ :precondition)) b)
-    (x-f : Goes text spans more false b f) (x-d : Expects text f.place :effect d)
-    (x-g : Goes text spans more true d g) (x-z : Closes text g.place z) where
-  abbrev whole : Act
-  whole = made text p a w b f.place d g.place z x-a x-w x-b (formula-ends text spans more false b f x-f) x-d
-      (formula-ends text spans more true d g x-g) x-z f.adds g.adds g.dels (f.known && g.known)
+    module _ {w : Word} (x-w : Names text a (Some w)) where
+      pub action_3 : Expects text w.next (:parameters ++ (40 ∷ 41 ∷ :precondition)) None → Acts text at None
+      unfolding action
+      action_3 x =
+          record { same = rw (expected action-opening x-a, ← x-w.same, expected parameters x); onward = tt }
 
-  pub an_action_masked : Acts text p whole × Masked text spans more whole
-  an_action_masked = (
-    an_action text p a w b f.place d g.place z x-a x-w x-b (formula-ends text spans more false b f x-f) x-d
-        (formula-ends text spans more true d g x-g) x-z f.adds g.adds g.dels (f.known && g.known),
-    record {
-      needs = x-f.means.adds;
-      adds = x-g.means.adds;
-      dels = x-g.means.dels;
-      names = rw (x-f.means.names, x-g.means.names);
-    },
-  )
+      module _ {b : ℕ} (x-b : Expects text w.next (:parameters ++ (40 ∷ 41 ∷ :precondition)) (Some b))
+          {spans : List Span} {more : ℕ} where
+        pub action_4 : Goes text spans more false b None → Acts text at None
+        unfolding action
+        action_4 x =
+            record {
+              same = rw (expected action-opening x-a, ← x-w.same, expected parameters x-b, x.means);
+              onward = tt;
+            }
+
+        module _ {f : Literals} (x-f : Goes text spans more false b (Some f)) where
+          needed : formula false depth (rest text b) ≡ parsed (literals_at text false b) (rest text f.next)
+          needed = list-is (formula false depth (rest text b)) x-f.means.place
+
+          pub action_5 : Expects text f.next :effect None → Acts text at None
+          unfolding action
+          action_5 x =
+              record {
+                same = rw (
+                  expected action-opening x-a,
+                  ← x-w.same,
+                  expected parameters x-b,
+                  needed,
+                  expected effect-word x,
+                );
+                onward = tt;
+              }
+
+          module _ {d : ℕ} (x-d : Expects text f.next :effect (Some d)) where
+            pub action_6 : Goes text spans more true d None → Acts text at None
+            unfolding action
+            action_6 x =
+                record {
+                  same = rw (
+                    expected action-opening x-a,
+                    ← x-w.same,
+                    expected parameters x-b,
+                    needed,
+                    expected effect-word x-d,
+                    x.means,
+                  );
+                  onward = tt;
+                }
+
+            module _ {g : Literals} (x-g : Goes text spans more true d (Some g)) where
+              changed : formula true depth (rest text d) ≡ parsed (literals_at text true d) (rest text g.next)
+              changed = list-is (formula true depth (rest text d)) x-g.means.place
+
+              pub action_7 : Closes text g.next None → Acts text at None
+              unfolding action
+              action_7 x =
+                  record {
+                    same = rw (
+                      expected action-opening x-a,
+                      ← x-w.same,
+                      expected parameters x-b,
+                      needed,
+                      expected effect-word x-d,
+                      changed,
+                      ← x.same,
+                    );
+                    onward = tt;
+                  }
+
+              module _ {z : ℕ} (x-z : Closes text g.next (Some z)) where
+                abbrev made : Act
+                made =
+                    record {
+                      first = w.first;
+                      end = w.end;
+                      precondition = b;
+                      effect = d;
+                      needs = f.adds;
+                      adds = g.adds;
+                      dels = g.dels;
+                      known = f.known && g.known;
+                      next = z;
+                    }
+
+                pub an_action : Acts text at (Some made)
+                unfolding action
+                an_action =
+                    record {
+                      same = rw (
+                        expected action-opening x-a,
+                        ← x-w.same,
+                        expected parameters x-b,
+                        needed,
+                        expected effect-word x-d,
+                        changed,
+                        ← x-z.same,
+                      );
+                      onward = (
+                        omega (
+                          arith,
+                          x-a.onward,
+                          x-w.onward.0,
+                          x-b.onward,
+                          x-f.means.onward.0,
+                          x-d.onward,
+                          x-g.means.onward.0,
+                          x-z.onward.0,
+                        ),
+                        x-z.onward.1,
+                        x-w.onward.2,
+                      );
+                    }
+
+                pub masked : Masked text spans more (Some made)
+                masked =
+                    record {
+                      needs = x-f.means.adds;
+                      adds = x-g.means.adds;
+                      dels = x-g.means.dels;
+                      names = rw (x-f.means.names, x-g.means.names);
+                    }
 
 -- ---- a domain
 
-abbrev behind_actions : List ℕ → List (List ℕ) → List Pddl.Action → List Token → Parsed Pddl.Domain
-behind_actions n ps acts ts =
-    expect (closing ∷ []) ts then λ _ ts. parsed (record { domain = n; predicates = ps; actions = acts }) ts
-
-abbrev behind_predicates : List ℕ → List (List ℕ) → List Token → Parsed Pddl.Domain
-behind_predicates n ps ts = expect (closing ∷ []) ts then λ _ ts. many action ts then behind_actions n ps
-
-abbrev behind_domain : List ℕ → List Token → Parsed Pddl.Domain
-behind_domain n ts =
-    expect (closing ∷ opening ∷ word :predicates ∷ []) ts then λ _ ts. many atom ts then behind_predicates n
-
-module _ (text : List ℕ) (p a : Place) (w : Word) (b c d e z : Place) (i j : ℕ) (is-i : i ≡ offset_of b)
-    (is-j : j ≡ offset_of d)
-    (x-a : Expects text p (40 ∷ define' ++ (40 ∷ domain')) a) (x-w : Names text a w)
-    (x-b : Expects text w.place (41 ∷ 40 ∷ :predicates) b) (x-c : AtomsEnd text b c) (x-d : Closes text c d)
-    (x-e : ActionsEnd text d e) (x-z : Closes text e z) where
-  abbrev domain-made : Domain
-  domain-made = record { first = w.first; end = w.end; predicates = i; actions = j; place = z }
-
-  domain-same : (left text p then λ _ ts. domain ts) ≡ (left text z then λ _ ts. parsed (domain_of text domain-made) ts)
+module _ {text : List ℕ} {at : ℕ} where
+  pub domain_1 : Expects text at (40 ∷ define' ++ (40 ∷ domain')) None → Domains text at None
   unfolding domain
-  domain-same =
-      expect-step text p _ _ a (λ ts. name ts then behind_domain) x-a domain-opening
-      ∙ name-step text a w behind_domain x-w
-      ∙ expect-step text w.place _ _ b (λ ts. many atom ts then behind_predicates (span text w.first w.end))
-      x-b predicates-opening
-      ∙ list_step text b c (many atom) (behind_predicates (span text w.first w.end)) x-c.same
-      ∙ close_step text c d
-      (λ ts. many action ts then behind_actions (span text w.first w.end) (atoms_from text (offset_of b))) x-d
-      ∙ list_step text d e (many action) (behind_actions (span text w.first w.end) (atoms_from text (offset_of b)))
-      x-e.same
-      ∙ close_step text e z
-      (parsed (record {
-        domain = span text w.first w.end;
-        predicates = atoms_from text (offset_of b);
-        actions = actions_from text (offset_of d);
-      })) x-z
-      ∙ rw (is-i, is-j)
+  domain_1 x = record { same = rw (expected domain-opening x); onward = tt }
 
-  pub a-domain : Domains text p domain-made
-  a-domain =
-      let most : ℕ = length text in
-      record {
-        same = sym domain-same;
-        within = x-w.within;
-        onward = behind-from most p a z x-a.onward
-            (behind-behind most a w.place z x-w.onward
-            (behind-from most w.place b z x-b.onward
-            (behind-from most b c z x-c.onward
-            (behind-behind most c d z x-d.onward (behind-from most d e z x-e.onward x-z.onward)))));
-      }
+  module _ {a : ℕ} (x-a : Expects text at (40 ∷ define' ++ (40 ∷ domain')) (Some a)) where
+    pub domain_2 : Names text a None → Domains text at None
+    unfolding domain
+    domain_2 x = record { same = rw (expected domain-opening x-a, ← x.same); onward = tt }
+
+    module _ {w : Word} (x-w : Names text a (Some w)) where
+      pub domain_3 : Expects text w.next (41 ∷ 40 ∷ :predicates) None → Domains text at None
+      unfolding domain
+      domain_3 x =
+          record { same = rw (expected domain-opening x-a, ← x-w.same, expected predicates-opening x); onward = tt }
+
+      module _ {b c : ℕ} (x-b : Expects text w.next (41 ∷ 40 ∷ :predicates) (Some b)) (x-c : AtomsEnd text b c) where
+        predicates_read : many atom (rest text b) ≡ parsed (atoms_from text b) (rest text c)
+        predicates_read = list-is (many atom (rest text b)) (sym x-c.same)
+
+        pub domain_4 : Closes text c None → Domains text at None
+        unfolding domain
+        domain_4 x =
+            record {
+              same = rw (
+                expected domain-opening x-a,
+                ← x-w.same,
+                expected predicates-opening x-b,
+                predicates_read,
+                ← x.same,
+              );
+              onward = tt;
+            }
+
+        module _ {d e : ℕ} (x-d : Closes text c (Some d)) (x-e : ActionsEnd text d e) where
+          actions_read : many action (rest text d) ≡ parsed (actions_from text d) (rest text e)
+          actions_read = list-is (many action (rest text d)) (sym x-e.same)
+
+          pub domain_5 : Closes text e None → Domains text at None
+          unfolding domain
+          domain_5 x =
+              record {
+                same = rw (
+                  expected domain-opening x-a,
+                  ← x-w.same,
+                  expected predicates-opening x-b,
+                  predicates_read,
+                  ← x-d.same,
+                  actions_read,
+                  ← x.same,
+                );
+                onward = tt;
+              }
+
+          pub a-domain : {z : ℕ} → Closes text e (Some z)
+              → Domains text at (Some (record { first = w.first; end = w.end; predicates = b; actions = d; next = z }))
+          unfolding domain
+          a-domain x =
+              record {
+                same = rw (
+                  expected domain-opening x-a,
+                  ← x-w.same,
+                  expected predicates-opening x-b,
+                  predicates_read,
+                  ← x-d.same,
+                  actions_read,
+                  ← x.same,
+                );
+                onward = (
+                  omega (
+                    arith,
+                    x-a.onward,
+                    x-w.onward.0,
+                    x-b.onward,
+                    x-c.onward,
+                    x-d.onward.0,
+                    x-e.onward,
+                    x.onward.0,
+                  ),
+                  x.onward.1,
+                  x-w.onward.2,
+                );
+              }
 
 -- ---- a problem
 
-abbrev behind_goal : List ℕ → List (List ℕ) → List Literal → List Token → Parsed Pddl.Problem
-behind_goal o is g ts =
-    expect (closing ∷ closing ∷ []) ts then λ _ ts. parsed (record { of = o; initially = is; goals = g }) ts
-
-abbrev behind_init : List ℕ → List (List ℕ) → List Token → Parsed Pddl.Problem
-behind_init o is ts =
-    expect (closing ∷ opening ∷ word :goal ∷ []) ts then λ _ ts. formula false depth ts then behind_goal o is
-
-abbrev behind_of : List ℕ → List Token → Parsed Pddl.Problem
-behind_of o ts = expect (closing ∷ opening ∷ word :init ∷ []) ts then λ _ ts. many atom ts then behind_init o
-
-abbrev behind_problem : List ℕ → List Token → Parsed Pddl.Problem
-behind_problem n ts = expect (closing ∷ opening ∷ word :domain ∷ []) ts then λ _ ts. name ts then behind_of
-
-module _ (text : List ℕ) (p a : Place) (v : Word) (b : Place) (w : Word) (c d e f g z : Place) (i : ℕ)
-    (is-i : i ≡ offset_of c)
-    (x-a : Expects text p (40 ∷ define' ++ (40 ∷ problem')) a) (x-v : Names text a v)
-    (x-b : Expects text v.place (41 ∷ 40 ∷ :domain) b) (x-w : Names text b w)
-    (x-c : Expects text w.place (41 ∷ 40 ∷ :init) c) (x-d : AtomsEnd text c d)
-    (x-e : Expects text d (41 ∷ 40 ∷ :goal) e) (x-f : FormulaEnds text false e f)
-    (x-g : Closes text f g) (x-z : Closes text g z) where
-  abbrev problem-made : Problem
-  problem-made = record { first = w.first; end = w.end; initially = i; goal = e; place = z }
-
-  problem-same : (left text p then λ _ ts. problem ts) ≡ (left text z then λ _ ts. parsed
-      (problem_of text problem-made) ts)
+module _ {text : List ℕ} {at : ℕ} where
+  pub problem_1 : Expects text at (40 ∷ define' ++ (40 ∷ problem')) None → Problems text at None
   unfolding problem
-  problem-same =
-      expect-step text p _ _ a (λ ts. name ts then behind_problem) x-a problem-opening
-      ∙ name-step text a v behind_problem x-v
-      ∙ expect-step text v.place _ _ b (λ ts. name ts then behind_of) x-b domain-naming
-      ∙ name-step text b w behind_of x-w
-      ∙ expect-step text w.place _ _ c (λ ts. many atom ts then behind_init (span text w.first w.end)) x-c
-      init-opening
-      ∙ list_step text c d (many atom) (behind_init (span text w.first w.end)) x-d.same
-      ∙ expect-step text d _ _ e
-      (λ ts. formula false depth ts then behind_goal (span text w.first w.end) (atoms_from text (offset_of c)))
-      x-e goal-opening
-      ∙ list_step-at text e f (formula false depth)
-      (behind_goal (span text w.first w.end) (atoms_from text (offset_of c))) x-f.same
-      ∙ close_two text f g z
-      (parsed (record {
-        of = span text w.first w.end;
-        initially = atoms_from text (offset_of c);
-        goals = literals_at text false e;
-      })) x-g x-z
-      ∙ rw is-i
+  problem_1 x = record { same = rw (expected problem-opening x); onward = tt }
 
-  pub a-problem : Problems text p problem-made
-  a-problem =
-      let most : ℕ = length text in
-      record {
-        same = sym problem-same;
-        within = x-w.within;
-        onward = behind-from most p a z x-a.onward
-            (behind-behind most a v.place z x-v.onward
-            (behind-from most v.place b z x-b.onward
-            (behind-behind most b w.place z x-w.onward
-            (behind-from most w.place c z x-c.onward
-            (behind-from most c d z x-d.onward
-            (behind-from most d e z x-e.onward
-            (behind-behind most e f z x-f.onward (behind-behind most f g z x-g.onward x-z.onward))))))));
-      }
+  module _ {a : ℕ} (x-a : Expects text at (40 ∷ define' ++ (40 ∷ problem')) (Some a)) where
+    pub problem_2 : Names text a None → Problems text at None
+    unfolding problem
+    problem_2 x = record { same = rw (expected problem-opening x-a, ← x.same); onward = tt }
+
+    module _ {v : Word} (x-v : Names text a (Some v)) where
+      pub problem_3 : Expects text v.next (41 ∷ 40 ∷ :domain) None → Problems text at None
+      unfolding problem
+      problem_3 x =
+          record { same = rw (expected problem-opening x-a, ← x-v.same, expected domain-naming x); onward = tt }
+
+      module _ {b : ℕ} (x-b : Expects text v.next (41 ∷ 40 ∷ :domain) (Some b)) where
+        pub problem_4 : Names text b None → Problems text at None
+        unfolding problem
+        problem_4 x =
+            record {
+              same = rw (expected problem-opening x-a, ← x-v.same, expected domain-naming x-b, ← x.same);
+              onward = tt;
+            }
+
+        module _ {w : Word} (x-w : Names text b (Some w)) where
+          pub problem_5 : Expects text w.next (41 ∷ 40 ∷ :init) None → Problems text at None
+          unfolding problem
+          problem_5 x =
+              record {
+                same = rw (
+                  expected problem-opening x-a,
+                  ← x-v.same,
+                  expected domain-naming x-b,
+                  ← x-w.same,
+                  expected init-opening x,
+                );
+                onward = tt;
+              }
+
+          module _ {c d : ℕ} (x-c : Expects text w.next (41 ∷ 40 ∷ :init) (Some c)) (x-d : AtomsEnd text c d) where
+            initial_read : many atom (rest text c) ≡ parsed (atoms_from text c) (rest text d)
+            initial_read = list-is (many atom (rest text c)) (sym x-d.same)
+
+            pub problem_6 : Expects text d (41 ∷ 40 ∷ :goal) None → Problems text at None
+            unfolding problem
+            problem_6 x =
+                record {
+                  same = rw (
+                    expected problem-opening x-a,
+                    ← x-v.same,
+                    expected domain-naming x-b,
+                    ← x-w.same,
+                    expected init-opening x-c,
+                    initial_read,
+                    expected goal-opening x,
+                  );
+                  onward = tt;
+                }
+
+            module _ {e : ℕ} (x-e : Expects text d (41 ∷ 40 ∷ :goal) (Some e)) {spans : List Span} {more : ℕ} where
+              pub problem_7 : Goes text spans more false e None → Problems text at None
+              unfolding problem
+              problem_7 x =
+                  record {
+                    same = rw (
+                      expected problem-opening x-a,
+                      ← x-v.same,
+                      expected domain-naming x-b,
+                      ← x-w.same,
+                      expected init-opening x-c,
+                      initial_read,
+                      expected goal-opening x-e,
+                      x.means,
+                    );
+                    onward = tt;
+                  }
+
+              module _ {f : Literals} (x-f : Goes text spans more false e (Some f)) where
+                goal_read : formula false depth (rest text e) ≡ parsed (literals_at text false e) (rest text f.next)
+                goal_read = list-is (formula false depth (rest text e)) x-f.means.place
+
+                pub problem_8 : Closes text f.next None → Problems text at None
+                unfolding problem
+                problem_8 x =
+                    record {
+                      same = rw (
+                        expected problem-opening x-a,
+                        ← x-v.same,
+                        expected domain-naming x-b,
+                        ← x-w.same,
+                        expected init-opening x-c,
+                        initial_read,
+                        expected goal-opening x-e,
+                        goal_read,
+                        two-closing (rest text f.next),
+                        ← x.same,
+                      );
+                      onward = tt;
+                    }
+
+                module _ {g : ℕ} (x-g : Closes text f.next (Some g)) where
+                  pub problem_9 : Closes text g None → Problems text at None
+                  unfolding problem
+                  problem_9 x =
+                      record {
+                        same = rw (
+                          expected problem-opening x-a,
+                          ← x-v.same,
+                          expected domain-naming x-b,
+                          ← x-w.same,
+                          expected init-opening x-c,
+                          initial_read,
+                          expected goal-opening x-e,
+                          goal_read,
+                          two-closing (rest text f.next),
+                          ← x-g.same,
+                          ← x.same,
+                        );
+                        onward = tt;
+                      }
+
+                  pub a-problem : {z : ℕ} → Closes text g (Some z)
+                      → Problems text at
+                      (Some (record { first = w.first; end = w.end; initially = c; goal = e; next = z }))
+                  unfolding problem
+                  a-problem x =
+                      record {
+                        same = rw (
+                          expected problem-opening x-a,
+                          ← x-v.same,
+                          expected domain-naming x-b,
+                          ← x-w.same,
+                          expected init-opening x-c,
+                          initial_read,
+                          expected goal-opening x-e,
+                          goal_read,
+                          two-closing (rest text f.next),
+                          ← x-g.same,
+                          ← x.same,
+                        );
+                        onward = (
+                          omega (
+                            arith,
+                            x-a.onward,
+                            x-v.onward.0,
+                            x-b.onward,
+                            x-w.onward.0,
+                            x-c.onward,
+                            x-d.onward,
+                            x-e.onward,
+                            x-f.means.onward.0,
+                            x-g.onward.0,
+                            x.onward.0,
+                          ),
+                          x.onward.1,
+                          x-w.onward.2,
+                        );
+                      }
 
 -- ---- a member
 
-abbrev behind_own : Pddl.Domain → Pddl.Problem → List Token → Parsed Pddl.Member
-behind_own d p ts = parsed (record { its = d; own = p }) ts
-
-abbrev behind_its : Pddl.Domain → List Token → Parsed Pddl.Member
-behind_its d ts = problem ts then behind_own d
-
-module _ (text : List ℕ) (at : ℕ) (d : Domain) (x : Domains text (At at) d) (p : Problem)
-    (y : Problems text d.place p) where
-  member-same : member (rest text at)
-      ≡ (left text p.place then λ _ ts. parsed (member_of text (record { domain = d; problem = p })) ts)
+module _ {text : List ℕ} {at : ℕ} where
+  pub no-domain : Domains text at None → Members text at None
   unfolding member
-  member-same =
-      ap (λ q. q then behind_its) (sym x.same) ∙ then-then (left text d.place)
-      (λ _ ts. parsed (domain_of text d) ts) behind_its
-      ∙ via (left text d.place) (λ _ ts. problem ts) (behind_own (domain_of text d)) y.same
-      ∙ then-then (left text p.place) (λ _ ts. parsed (problem_of text p) ts) (behind_own (domain_of text d))
+  no-domain x = record { same = rw (← x.same); onward = tt }
 
-  pub a-member : Members text at (record { domain = d; problem = p })
-  a-member =
-      record {
-        same = sym member-same;
-        onward = behind-behind (length text) (At at) d.place p.place x.onward y.onward;
-        domain-within = x.within;
-        problem-within = y.within;
-      }
+  module _ {d : Domain} (x : Domains text at (Some d)) where
+    pub no-problem : Problems text d.next None → Members text at None
+    unfolding member
+    no-problem y = record { same = rw (← x.same, ← y.same); onward = tt }
+
+    pub a-member : {p : Problem} → Problems text d.next (Some p)
+        → Members text at (Some (record { domain = d; problem = p }))
+    unfolding member
+    a-member y =
+        record {
+          same = rw (← x.same, ← y.same);
+          onward = ((omega (arith, x.onward.0, y.onward.0), y.onward.1, y.onward.2), x.onward.2);
+        }

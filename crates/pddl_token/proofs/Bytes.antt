@@ -65,7 +65,8 @@ module _ (bs : List ℕ) where
     unfolding tokens_from
     word-goes-on w h = rw h
 
-    pub word-ends : (w : List ℕ) → in_word b ≡ false → tokens_from (inner w) (b ∷ bs) ≡ word w ∷ tokens_from outer (b ∷ bs)
+    pub word-ends : (w : List ℕ) → in_word b ≡ false → tokens_from (inner w) (b ∷ bs)
+        ≡ word w ∷ tokens_from outer (b ∷ bs)
     unfolding tokens_from
     word-ends w h = rw h
 

@@ -20,12 +20,7 @@ pub enum Token {
 fn in_word(b: u8) -> bool
     ensures { result ≡ in_word b }
 {
-    ((b'a' <= b) & (b <= b'z'))
-        | ((b'A' <= b) & (b <= b'Z'))
-        | ((b'0' <= b) & (b <= b'9'))
-        | (b == b'-')
-        | (b == b':')
-        | (b == b'_')
+    b.is_ascii_alphanumeric() | (b == b'-') | (b == b':') | (b == b'_')
 }
 
 fn blank(b: u8) -> bool
@@ -39,15 +34,12 @@ fn line_end(text: &[u8], at: usize) -> usize
     requires { at ≤ length text.now }
     ensures { LineEnd text.now at result }
 {
-    let mut i = at;
-    while i < text.len() {
+    for i in at..text.len() {
         if text[i] == b'\n' {
             return i;
-        } else {
-            i += 1;
         }
     }
-    i
+    text.len()
 }
 
 // The first offset from `at` on that is in no blank and no comment, or the text's end.
@@ -55,17 +47,16 @@ fn skip(text: &[u8], at: usize) -> usize
     requires { at ≤ length text.now }
     ensures { Skipped text.now at result }
 {
+    // A `while`: a comment is skipped as a whole, so the offset does not go up by one.
     let mut i = at;
     while i < text.len() {
         let b = text[i];
         if b == b';' {
             i = line_end(text, i + 1);
+        } else if blank(b) {
+            i += 1;
         } else {
-            if blank(b) {
-                i += 1;
-            } else {
-                return i;
-            }
+            return i;
         }
     }
     i
@@ -76,15 +67,12 @@ fn word_end(text: &[u8], start: usize, at: usize) -> usize
     requires { (start ≤ at) × (at ≤ length text.now) }
     ensures { WordEnd text.now start at result }
 {
-    let mut i = at;
-    while i < text.len() {
-        if in_word(text[i]) {
-            i += 1;
-        } else {
+    for i in at..text.len() {
+        if !in_word(text[i]) {
             return i;
         }
     }
-    i
+    text.len()
 }
 
 // The next token from `at` on.

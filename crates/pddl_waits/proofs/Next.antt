@@ -2,6 +2,7 @@
 use mathlib.Core.Path.{◌≡◌, refl, sym, ap, ap₂, subst, ◌∙◌}
 use mathlib.Core.Bool.{Bool, true, false}
 use mathlib.Core.List.{List, [], ◌∷◌, ◌++◌, append_assoc, append-nil}
+use Rattle.std.specs.Prelude.{Option, Some, None}
 use Prim.Native.Nat.{ℕ, ◌+◌, ◌-◌, ◌/◌, ◌^◌, ◌≤◌, ◌<◌}
 use native.Mathlib.Numerals.{add-one}
 use native.Mathlib.Omega.{arith}
@@ -22,9 +23,9 @@ use Rattle.text.specs.declared.Field.{Field}
 use Rattle.text.specs.declared.Field.TheVariants.{Empty, Number, Ended}
 use Rattle.text.specs.declared.Place.{Place}
 use Rattle.text.specs.declared.Turn.{Turn}
-use Rattle.text.specs.declared.Turn.TheVariants.{On, Word, Bad}
+use Rattle.text.specs.declared.Turn.TheVariants.{On, Word}
 use Rattle.text.specs.declared.Last.{Last}
-use Rattle.text.specs.declared.Last.TheVariants.{Records, Word as LastWord, Bad as BadEnd}
+use Rattle.text.specs.declared.Last.TheVariants.{Records, Word as LastWord}
 use Rattle.pddl_waits.proofs.Parts.{Ends, sound_none, words-none, sound-parts, words-parts, text-sound}
 use Rattle.pddl_waits.proofs.Parts.{text_unsound}
 use Rattle.pddl_waits.specs.Inner.Wait.{in_pairs, Next}
@@ -38,12 +39,12 @@ Line read (Number v) = Unit {0}
 Line read Ended = Ends read (cr ∷ [])
 
 -- a byte of the first record, after which these bytes are read: only LF after CR leads to the second
-abbrev Goes : List ℕ → Turn → Type 0
-Goes read (On q) =
+abbrev Goes : List ℕ → Option Turn → Type 0
+Goes read (Some (On q)) =
     (q.records ≡ 0 → Line read q.field)
     × ((q.records ≡ 0 → ⊥) → (q ≡ at 1 0 Empty) × Ends read (cr ∷ lf ∷ []))
-Goes read (Word v q) = (q.records ≡ 0) × Line read q.field
-Goes read Bad = Unit {0}
+Goes read (Some (Word v q)) = (q.records ≡ 0) × Line read q.field
+Goes read None = Unit {0}
 
 module _ (n f : ℕ) (read : List ℕ) (b : ℕ) where
   goes : (field : Field) → Line read field → (byte : Byte) → ByteMeans b byte
@@ -82,10 +83,10 @@ module _ (n f : ℕ) (read : List ℕ) (b : ℕ) where
   goes Ended l Other m = tt
 
 -- the end of the text in the first record
-abbrev Stops : Last → Type 0
-Stops (Records m) = m ≡ 0
-Stops (LastWord v m) = m ≡ 1
-Stops BadEnd = Unit {0}
+abbrev Stops : Option Last → Type 0
+Stops (Some (Records m)) = m ≡ 0
+Stops (Some (LastWord v m)) = m ≡ 1
+Stops None = Unit {0}
 
 stops : (f : ℕ) (field : Field) → Stops (last_in 2 0 f field)
 stops f Empty = cond_ind Stops (eqb f 0) (λ e. refl) (λ e. tt)
@@ -164,7 +165,8 @@ module _ {n : ℕ} {waits : List ℕ} {from : ℕ} {place : Place} {action fact 
   short = omega (arith, s.enough, length-drop from waits)
 
   -- the next byte, and what it leads to
-  module _ (byte : Byte) (r : Turn) (more : i < n) (all : n ≡ length waits) (sorted : ByteMeans (get_or waits i 0) byte)
+  module _ (byte : Byte) (r : Option Turn) (more : i < n) (all : n ≡ length waits)
+      (sorted : ByteMeans (get_or waits i 0) byte)
       (led : r ≡ step_of 2 n place byte) where
     abbrev now : List ℕ
     now = s.read ++ (get_or waits i 0 ∷ [])
@@ -190,7 +192,7 @@ module _ {n : ℕ} {waits : List ℕ} {from : ℕ} {place : Place} {action fact 
         (subst (λ (k : ℕ). Goes now (step_in 2 n k place.fields place.field byte)) (sym s.first)
         (goes n place.fields s.read (get_or waits i 0) place.field s.line byte sorted))
 
-    module _ (q : Place) (e : r ≡ On q) where
+    module _ (q : Place) (e : r ≡ Some (On q)) where
       on-stands : (t : List ℕ) → Stands 2 n (now ++ t) s.ws q.records q.fields q.field t
       on-stands t = subst (After 2 n (now ++ t) s.ws t) e (turned t)
 
@@ -229,7 +231,7 @@ module _ {n : ℕ} {waits : List ℕ} {from : ℕ} {place : Place} {action fact 
                 ∙ two-all s.ws action fact s.two whole.size);
           }
 
-    pub word_on : (v : ℕ) (q : Place) → r ≡ Word v q → Reads n waits from q fact v (i + 1)
+    pub word_on : (v : ℕ) (q : Place) → r ≡ Some (Word v q) → Reads n waits from q fact v (i + 1)
     word_on v q e = record {
       enough = s.enough;
       after = omega (arith, s.after);
@@ -243,14 +245,14 @@ module _ {n : ℕ} {waits : List ℕ} {from : ℕ} {place : Place} {action fact 
       two = two-more s.ws action fact v s.two;
     }
 
-    pub out : r ≡ Bad → in_pairs (drop from waits) ≡ false
+    pub out : r ≡ None → in_pairs (drop from waits) ≡ false
     out e =
         text_unsound 2 n (drop from waits) short
         (ap (is_text 2 n) split-on
         ∙ subst (After 2 n (now ++ drop (i + 1) waits) s.ws (drop (i + 1) waits)) e (turned (drop (i + 1) waits)))
 
   -- the end of the text, and what it leads to
-  module _ (r : Last) (over : n ≤ i) (led : r ≡ last_of 2 place) where
+  module _ (r : Option Last) (over : n ≤ i) (led : r ≡ last_of 2 place) where
     none_left : drop i waits ≡ []
     none_left = drop_of_length-le waits {i = i} (omega (arith, s.enough))
 
@@ -266,7 +268,8 @@ module _ {n : ℕ} {waits : List ℕ} {from : ℕ} {place : Place} {action fact 
         (subst (λ (k : ℕ). Stops (last_in 2 k place.fields place.field)) (sym s.first)
         (stops place.fields place.field))
 
-    pub ended : (m : ℕ) → r ≡ Records m → (in_pairs (drop from waits) ≡ true) × (text_words (drop from waits) ≡ [])
+    pub ended : (m : ℕ) → r ≡ Some (Records m) → (in_pairs (drop from waits) ≡ true)
+        × (text_words (drop from waits) ≡ [])
     ended m e =
         let whole : Whole 2 n (s.read ++ []) s.ws m = subst (AtEnd 2 n (s.read ++ []) s.ws) e finished in
         let z : m ≡ 0 = subst Stops e stopped in (
@@ -290,7 +293,7 @@ module _ {n : ℕ} {waits : List ℕ} {from : ℕ} {place : Place} {action fact 
             let l : length {A = ℕ} [] ≡ length (x ∷ xs) = ap length (sym words-none ∙ ap text_words (sym z) ∙ e) in
             absurd (omega arith)
 
-    pub last_found : (v m : ℕ) → r ≡ LastWord v m → Next waits from fact v i
+    pub last_found : (v m : ℕ) → r ≡ Some (LastWord v m) → Next waits from fact v i
     last_found v m e =
         let whole : Whole 2 n (s.read ++ []) (s.ws ++ (v ∷ [])) m =
         (subst (AtEnd 2 n (s.read ++ []) s.ws) e finished).1 in
@@ -307,7 +310,7 @@ module _ {n : ℕ} {waits : List ℕ} {from : ℕ} {place : Place} {action fact 
           words = words ∙ ap (λ (ws : List ℕ). fact ∷ v ∷ ws) (sym (ap text_words none_left ∙ words-none));
         }
 
-    pub no_end : r ≡ BadEnd → in_pairs (drop from waits) ≡ false
+    pub no_end : r ≡ None → in_pairs (drop from waits) ≡ false
     no_end e =
         text_unsound 2 n (drop from waits) short
         (ap (is_text 2 n) all_read ∙ subst (AtEnd 2 n (s.read ++ []) s.ws) e finished)

@@ -1,12 +1,14 @@
 -- The pass over the records of a waits text: what is known of the waits before offset i. Assumes nothing.
-use mathlib.Core.Path.{◌≡◌, refl, sym, ap, subst, ◌∙◌}
-use mathlib.Core.Bool.{Bool, true, false, cond, true≢false, ◌&&◌}
+use mathlib.Core.Path.{◌≡◌, refl, sym, ap, ◌∙◌}
+use mathlib.Core.Bool.{Bool, true, false, ◌&&◌}
 use mathlib.Core.List.{List, []}
-use Prim.Native.Nat.{ℕ, ◌+◌, ◌-◌, ◌<◌, max}
+use Prim.Native.Nat.{ℕ, ◌+◌, ◌-◌, ◌<◌}
 use native.Mathlib.Omega.{arith}
 use lib.ListN.{length, drop}
 use lib.Bits.{bit_or, or_zero_l, or_zero_r}
-use lib.Dec.{ltb}
+use Rattle.std.specs.Prelude.{Option, Some, None, Ok, Err}
+use Rattle.refusal.specs.declared.Refusal.{Refusal}
+use Rattle.refusal.specs.declared.Refusal.TheVariants as refusal
 use Rattle.theory.proofs.Lists.{and_elim, get_d-zeros}
 use Rattle.theory.proofs.Loops.{Rest, rest-begin}
 use Rattle.semantics.specs.Base.{zeroed}
@@ -16,38 +18,30 @@ use Rattle.semantics.specs.Pddl.{waits_known, wait_mask}
 use Rattle.mask.specs.Inner.Stored.{mask_at}
 use Rattle.pddl_theory.specs.Inner.Limits.{most_facts}
 use Rattle.pddl_words.specs.Inner.Built.{Waits}
-use Rattle.pddl_waits.proofs.Waits.{known_both, known-max}
+use Rattle.pddl_waits.proofs.Waits.{known_both, known-grown}
 use Rattle.pddl_waits.proofs.Filling.{added}
-use Rattle.pddl_waits.specs.Inner.Wait.{in_pairs, Next, WaitMeans}
-use Rattle.pddl_waits.specs.Inner.Waits.{AddedIn, WaitsIn}
+use Rattle.pddl_waits.specs.Inner.Wait.{in_pairs, Next}
+use Rattle.pddl_waits.specs.Inner.Waits.{AddedIn, WaitsIn, within_of, grown_of}
 use Rattle.pddl_waits.specs.declared.Wait.{Wait}
-use Rattle.pddl_waits.specs.declared.Wait.TheVariants.{For, End, Bad}
+use Rattle.pddl_waits.specs.declared.Greatest.{Greatest}
 
--- the record at offset i, where it is one
-there : {waits : List ℕ} {i : ℕ} (r : Wait) → WaitMeans waits i r → (a f j : ℕ) → r ≡ For a f j → Next waits i a f j
-there {waits} {i} r means a f j e = subst (WaitMeans waits i) e means
+pub less : (waits : List ℕ) (i : ℕ) (w : Wait) → Next waits i w.action w.fact w.next
+    → length waits - w.next < length waits - i
+less waits i w n = omega (arith, n.onward, n.within)
 
-pub less : (waits : List ℕ) (i : ℕ) (r : Wait) → WaitMeans waits i r → (a f j : ℕ) → r ≡ For a f j
-    → length waits - j < length waits - i
-less waits i r means a f j e =
-    let n = there r means a f j e in
-    omega (arith, n.onward, n.within)
-
--- whether there is a wait before offset i, the greatest numbers in those, and their masks
-pub record Before (waits table₀ table : List ℕ) (some : Bool) (action fact i : ℕ) : Type 0 where
+-- the greatest numbers of the waits before offset i, if there is one, and their masks
+pub record Before (waits table₀ table : List ℕ) (most : Option Greatest) (i : ℕ) : Type 0 where
   pub left : Rest in_pairs waits i
   pub kept : length table ≡ length table₀
-  none : some ≡ false → (action ≡ 0) × (fact ≡ 0)
   known : (m F : ℕ) → waits_known m F (text_words waits)
-      ≡ cond some (ltb action m && ltb fact F) true && waits_known m F (text_words (drop i waits))
+      ≡ within_of most m F && waits_known m F (text_words (drop i waits))
   each : waits_known (states_in (length table)) most_facts (text_words waits) ≡ true → (b : ℕ)
       → bit_or (mask_at table b) (wait_mask b (text_words (drop i waits))) ≡ wait_mask b (text_words waits)
 
-pub begin : (waits table : List ℕ) → table ≡ zeroed table → Before waits table table false 0 0 0
+pub begin : (waits table : List ℕ) → table ≡ zeroed table → Before waits table table None 0
 begin waits table z = record {
   left = rest-begin in_pairs waits;
   kept = refl;
-  none = λ _. (refl, refl);
   known = λ m F. refl;
   each = λ _ b.
       ap (λ (x : ℕ). bit_or x (wait_mask b (text_words waits)))
@@ -61,27 +55,23 @@ begin waits table z = record {
         rw (get_d-zeros (length table) (words_for b), get_d-zeros (length table) (words_for b + 1)) in
         ap (λ (t : List ℕ). mask_at t b) z ∙ none
 
-module _ {waits table₀ table : List ℕ} {some : Bool} {action fact i : ℕ}
-    (s : Before waits table₀ table some action fact i) (r : Wait) (means : WaitMeans waits i r) where
-  module _ (a f j : ℕ) (e : r ≡ For a f j) where
-    here : Next waits i a f j
-    here = there r means a f j e
-
+module _ {waits table₀ table : List ℕ} {most : Option Greatest} {i : ℕ} (s : Before waits table₀ table most i) where
+  module _ (a f j : ℕ) (here : Next waits i a f j) where
     both : waits_known (states_in (length table)) most_facts (text_words waits) ≡ true
         → (a < states_in (length table)) × (f < most_facts)
     both h =
         let n : ℕ = states_in (length table) in
         known_both n most_facts a f (text_words (drop j waits))
         (ap (waits_known n most_facts) (sym here.words)
-        ∙ (and_elim (cond some (ltb action n && ltb fact most_facts) true)
+        ∙ (and_elim (within_of most n most_facts)
         (waits_known n most_facts (text_words (drop i waits))) (sym (s.known n most_facts) ∙ h)).1)
 
     known_on : (m F : ℕ) → waits_known m F (text_words waits)
-        ≡ (ltb (max action a) m && ltb (max fact f) F) && waits_known m F (text_words (drop j waits))
+        ≡ within_of (Some (grown_of most a f)) m F && waits_known m F (text_words (drop j waits))
     known_on m F =
         s.known m F
-        ∙ ap (λ (ws : List ℕ). cond some (ltb action m && ltb fact F) true && waits_known m F ws) here.words
-        ∙ known-max action fact a f m F (text_words (drop j waits)) some s.none
+        ∙ ap (λ (ws : List ℕ). within_of most m F && waits_known m F ws) here.words
+        ∙ known-grown most a f m F (text_words (drop j waits))
 
     module _ (after : List ℕ) (t : AddedIn table a f after) where
       each_on : waits_known (states_in (length after)) most_facts (text_words waits) ≡ true → (b : ℕ)
@@ -96,25 +86,20 @@ module _ {waits table₀ table : List ℕ} {some : Bool} {action fact i : ℕ}
           ∙ ap (λ (ws : List ℕ). bit_or (mask_at table b) (wait_mask b ws)) (sym here.words)
           ∙ s.each k b
 
-      pub onward : (x y : ℕ) → x ≡ max action a → y ≡ max fact f → Before waits table₀ after true x y j
-      onward x y p q = record {
+      pub onward : (g : Greatest) → g ≡ grown_of most a f → Before waits table₀ after (Some g) j
+      onward g p = record {
         left = record { most = here.within; rest = s.left.rest ∙ here.pairs };
         kept = t.size ∙ s.kept;
-        none = λ h. absurd (true≢false h);
-        known = λ m F. rw (p, q) (known_on m F);
+        known = λ m F. rw p (known_on m F);
         each = each_on;
       }
 
-  module _ (e : r ≡ End) where
-    ended : (in_pairs (drop i waits) ≡ true) × (text_words (drop i waits) ≡ [])
-    ended = subst (WaitMeans waits i) e means
-
-    known-end : (m F : ℕ) → waits_known m F (text_words waits) ≡ cond some (ltb action m && ltb fact F) true
+  module _ (ended : (in_pairs (drop i waits) ≡ true) × (text_words (drop i waits) ≡ [])) where
+    known-end : (m F : ℕ) → waits_known m F (text_words waits) ≡ within_of most m F
     unfolding waits_known
     known-end m F =
-        s.known m F
-        ∙ ap (λ (ws : List ℕ). cond some (ltb action m && ltb fact F) true && waits_known m F ws) ended.1
-        ∙ and-true (cond some (ltb action m && ltb fact F) true)
+        s.known m F ∙ ap (λ (ws : List ℕ). within_of most m F && waits_known m F ws) ended.1
+        ∙ and-true (within_of most m F)
       where
         and-true : (b : Bool) → b && true ≡ b
         and-true true = refl
@@ -131,16 +116,8 @@ module _ {waits table₀ table : List ℕ} {some : Bool} {action fact i : ℕ}
                 ∙ s.each h b;
           }
 
-    pub end : WaitsIn waits table (record { good = true; some = some; action = action; fact = fact })
-    end = record {
-      good = sym (s.left.rest ∙ ended.0);
-      known = λ _. known-end;
-      masks = λ _. filled;
-    }
+    pub end : WaitsIn waits table (Ok most)
+    end = record { good = s.left.rest ∙ ended.0; known = known-end; masks = filled }
 
-  pub out : r ≡ Bad → WaitsIn waits table (record { good = false; some = some; action = action; fact = fact })
-  out e = record {
-    good = sym (s.left.rest ∙ subst (WaitMeans waits i) e means);
-    known = λ h. absurd (true≢false (sym h));
-    masks = λ h. absurd (true≢false (sym h));
-  }
+  pub out : (e : Refusal) → (e ≡ refusal.Text) × (in_pairs (drop i waits) ≡ false) → WaitsIn waits table (Err e)
+  out e x = (x.0, s.left.rest ∙ x.1)

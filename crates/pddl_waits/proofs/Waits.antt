@@ -1,15 +1,16 @@
 -- The numbers in waits and their bounds. Assumes nothing.
 use mathlib.Core.Path.{◌≡◌, refl, sym, ◌∙◌}
-use mathlib.Core.Bool.{Bool, true, false, cond, ◌&&◌}
+use mathlib.Core.Bool.{Bool, true, false, ◌&&◌}
 use mathlib.Core.List.{List, [], ◌∷◌}
 use Prim.Native.Nat.{ℕ, ◌≤◌, ◌<◌, max}
 use native.Mathlib.Omega.{arith}
 use lib.Dec.{ltb}
+use Rattle.std.specs.Prelude.{Option, Some, None}
 use borrow.Author.Tests.{lt-ltb, le-ltb, ltb-true, ltb-false}
 use Rattle.theory.proofs.Lists.{and_elim}
 use Rattle.semantics.specs.Pddl.{waits_known}
-use Rattle.pddl_waits.specs.Inner.Waits.{within_of}
-use Rattle.pddl_waits.specs.declared.Reading.{Reading}
+use Rattle.pddl_waits.specs.Inner.Waits.{within_of, grown_of}
+use Rattle.pddl_waits.specs.declared.Greatest.{Greatest}
 
 -- ---- waits whose numbers are known
 
@@ -25,7 +26,8 @@ module _ (m F : ℕ) (a f : ℕ) (ws : List ℕ) where
   known_this h g = rw (lt-ltb a m h, lt-ltb f F g)
 
 -- under higher bounds too
-pub known_more : (m F m' F' : ℕ) (ws : List ℕ) → m ≤ m' → F ≤ F' → waits_known m F ws ≡ true → waits_known m' F' ws ≡ true
+pub known_more : (m F m' F' : ℕ) (ws : List ℕ) → m ≤ m' → F ≤ F' → waits_known m F ws ≡ true → waits_known m' F' ws
+    ≡ true
 unfolding waits_known
 known_more m F m' F' [] l k h = refl
 known_more m F m' F' (a ∷ []) l k h = refl
@@ -52,23 +54,16 @@ module _ (x y a f m F : ℕ) (ws : List ℕ) where
   unfolding waits_known
   one_more = rw (max-below x a m, max-below y f F) (go (ltb x m) (ltb y F) (ltb a m) (ltb f F))
     where
-      go : (p q s t : Bool) → (p && q) && ((s && t) && waits_known m F ws) ≡ ((p && s) && (q && t)) && waits_known m F ws
+      go : (p q s t : Bool) → (p && q) && ((s && t) && waits_known m F ws)
+          ≡ ((p && s) && (q && t)) && waits_known m F ws
       go true true s t = refl
       go true false true t = refl
       go true false false t = refl
       go false q s t = refl
 
-  pub known-max : (some : Bool) → (some ≡ false → (x ≡ 0) × (y ≡ 0))
-      → cond some (ltb x m && ltb y F) true && waits_known m F (a ∷ f ∷ ws)
-      ≡ (ltb (max x a) m && ltb (max y f) F) && waits_known m F ws
-  unfolding waits_known
-  known-max true none = one_more
-  known-max false none =
-      let zeros = none refl in
-      let u : max x a ≡ a = omega (arith, zeros.0) in
-      let v : max y f ≡ f = omega (arith, zeros.1) in
-      rw (u, v)
-
--- where there is a wait
-pub both_below : (w : Reading) (m F : ℕ) → w.some ≡ true → ltb w.action m && ltb w.fact F ≡ within_of w m F
-both_below w m F h = rw h
+pub known-grown : (most : Option Greatest) (a f m F : ℕ) (ws : List ℕ)
+    → within_of most m F && waits_known m F (a ∷ f ∷ ws)
+    ≡ within_of (Some (grown_of most a f)) m F && waits_known m F ws
+unfolding waits_known
+known-grown None a f m F ws = refl
+known-grown (Some g) a f m F ws = one_more g.action g.fact a f m F ws

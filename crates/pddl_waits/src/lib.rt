@@ -3,37 +3,34 @@
 
 #![tactic(auto)]
 
-ghost use Rattle.std.specs.Prelude.{◌≡◌, ◌≤◌, max, length};
+ghost use Rattle.std.specs.Prelude.{◌≡◌, ◌≤◌, length};
 ghost use Rattle.semantics.specs.Base.{zeroed};
 ghost use Rattle.pddl_waits.specs.Inner.Wait.{WaitMeans};
-ghost use Rattle.pddl_waits.specs.Inner.Waits.{AddedIn, WaitsIn, within_of};
+ghost use Rattle.pddl_waits.specs.Inner.Waits.{AddedIn, WaitsIn, within_of, grown_of};
 
+use refusal::Refusal;
 use text::{Last, Turn};
 
 // Words in a record.
 const FIELDS: usize = 2;
 
-// What stands at an offset: a record, its action, its fact and the offset behind it; the text's
-// end; or no record.
+// A record: its action, its fact and the offset behind it.
 #[derive(Clone, Copy)]
-enum Wait {
-    For(u64, u64, usize),
-    End,
-    Bad,
+struct Wait {
+    action: u64,
+    fact: u64,
+    next: usize,
 }
 
-// What the waits are: records of two numbers or not; whether there is one; the greatest number of
-// an action and of a fact in them.
+// The greatest number of an action and of a fact in waits.
 #[derive(Clone, Copy)]
-pub struct Reading {
-    pub good: bool,
-    pub some: bool,
+pub struct Greatest {
     pub action: u64,
     pub fact: u64,
 }
 
-// The record at an offset where one begins.
-fn next_wait(waits: &[u8], from: usize) -> Wait
+// The record at an offset where one begins; none at the text's end.
+fn next_wait(waits: &[u8], from: usize) -> Result<Option<Wait>, Refusal>
     requires { from ≤ length waits.now }
     ensures { WaitMeans waits.now from result }
 {
@@ -41,14 +38,18 @@ fn next_wait(waits: &[u8], from: usize) -> Wait
     let mut place = text::start();
     let mut action = 0;
     let mut fact = 0;
-    let mut i = from;
-    while i < most {
-        let next = text::step(place, text::sort(waits[i]), FIELDS, most);
-        i += 1;
-        match next {
+    for i in from..most {
+        let Some(turn) = text::step(place, text::sort(waits[i]), FIELDS, most) else {
+            return Err(Refusal::Text);
+        };
+        match turn {
             Turn::On(p) => {
                 if p.records != 0 {
-                    return Wait::For(action, fact, i);
+                    return Ok(Some(Wait {
+                        action,
+                        fact,
+                        next: i + 1,
+                    }));
                 }
                 place = p;
             }
@@ -57,16 +58,16 @@ fn next_wait(waits: &[u8], from: usize) -> Wait
                 fact = v;
                 place = p;
             }
-            Turn::Bad => {
-                return Wait::Bad;
-            }
         }
     }
-    let end = text::at_end(place, FIELDS);
-    match end {
-        Last::Records(_) => Wait::End,
-        Last::Word(v, _) => Wait::For(fact, v, i),
-        Last::Bad => Wait::Bad,
+    match text::at_end(place, FIELDS) {
+        Some(Last::Records(_)) => Ok(None),
+        Some(Last::Word(v, _)) => Ok(Some(Wait {
+            action: fact,
+            fact: v,
+            next: most,
+        })),
+        None => Err(Refusal::Text),
     }
 }
 
@@ -84,61 +85,46 @@ fn add(table: &mut [u64], action: u64, fact: u64)
     }
 }
 
-// The greater of two numbers.
-fn greater(a: u64, b: u64) -> u64
-    ensures { result ≡ max a b }
+// The greatest numbers with one wait more.
+fn grown(most: Option<Greatest>, w: Wait) -> Greatest
+    ensures { result ≡ grown_of most w.action w.fact }
 {
-    if a < b { b } else { a }
-}
-
-// All waits in one pass. The facts for which each of the first actions waits go into the table, a
-// mask for each, all zeros before; what a wait beyond the table, or for a fact from 128 on, leaves
-// in it is not told.
-pub fn read(waits: &[u8], table: &mut [u64]) -> Reading
-    requires { table.old ≡ zeroed table.old }
-    ensures { WaitsIn waits.now table.new result }
-{
-    let mut some = false;
-    let mut action = 0;
-    let mut fact = 0;
-    let mut i = 0;
-    loop {
-        let next = next_wait(waits, i);
-        match next {
-            Wait::For(a, f, j) => {
-                add(table, a, f);
-                some = true;
-                action = greater(action, a);
-                fact = greater(fact, f);
-                i = j;
-            }
-            Wait::End => {
-                return Reading {
-                    good: true,
-                    some,
-                    action,
-                    fact,
-                };
-            }
-            Wait::Bad => {
-                return Reading {
-                    good: false,
-                    some,
-                    action,
-                    fact,
-                };
-            }
-        }
+    match most {
+        Some(m) => Greatest {
+            action: m.action.max(w.action),
+            fact: m.fact.max(w.fact),
+        },
+        None => Greatest {
+            action: w.action,
+            fact: w.fact,
+        },
     }
 }
 
-// Is each action's number below `actions`, each fact's below `facts`?
-pub fn within(w: Reading, actions: usize, facts: usize) -> bool
-    ensures { result ≡ within_of w actions facts }
+// All waits in one pass: the greatest numbers in them, if there is a wait; refused where they are
+// no records. The facts for which each of the first actions waits go into the table, a mask for
+// each, all zeros before; what a wait beyond the table, or for a fact from 128 on, leaves in it is
+// not told.
+pub fn read(waits: &[u8], table: &mut [u64]) -> Result<Option<Greatest>, Refusal>
+    requires { table.old ≡ zeroed table.old }
+    ensures { WaitsIn waits.now table.new result }
 {
-    if w.some {
-        (w.action < actions as u64) & (w.fact < facts as u64)
-    } else {
-        true
+    let mut most = None;
+    let mut i = 0;
+    while let Some(w) = next_wait(waits, i)? {
+        add(table, w.action, w.fact);
+        most = Some(grown(most, w));
+        i = w.next;
+    }
+    Ok(most)
+}
+
+// Is each action's number below `actions`, each fact's below `facts`?
+pub fn within(most: Option<Greatest>, actions: usize, facts: usize) -> bool
+    ensures { result ≡ within_of most actions facts }
+{
+    match most {
+        Some(m) => (m.action < actions as u64) & (m.fact < facts as u64),
+        None => true,
     }
 }

@@ -27,9 +27,9 @@ pub fn fact(k: usize) -> Mask
     ensures { number result ≡ 2 ^ k }
 {
     if k < WORD_FACTS {
-        return mask::of_words(1 << k, 0);
+        return Mask::from([1 << k, 0]);
     }
-    mask::of_words(0, 1 << (k - WORD_FACTS))
+    Mask::from([0, 1 << (k - WORD_FACTS)])
 }
 
 // The facts of either mask.
@@ -44,7 +44,7 @@ fn put_mask(table: &mut [u64], at: usize, m: Mask)
     requires { at + 2 ≤ length table.old }
     ensures { Appended table.old at (words_of (number m)) table.new }
 {
-    let words = mask::words(m);
+    let words = mask::Words::from(m);
     table[at] = words[0];
     table[at + 1] = words[1];
 }
@@ -80,7 +80,7 @@ pub fn put_head(table: &mut [u64], facts: u64, members: u64, actions: u64, initi
         table,
         0,
         facts,
-        mask::of_words(members, actions),
+        Mask::from([members, actions]),
         initial,
         mask::none(),
         mask::none(),

@@ -22,6 +22,9 @@ use Rattle.pddl_theory.proofs.RegroupedWords.{order-length}
 use Rattle.text.proofs.Longest.{field_length}
 use Rattle.text.proofs.RoundTrip.{word_field}
 use Rattle.report.proofs.Laws.{digits-one, digits_more}
+use Rattle.pddl_write.specs.declared.Part.{Part}
+use Rattle.pddl_write.specs.declared.Part.TheVariants.{Law, Waits}
+use Rattle.pddl_write.specs.Inner.Parts.{text_of}
 use Rattle.pddl_write.specs.Inner.Put.{most}
 use Rattle.pddl_write.proofs.Laws.{keep-few}
 
@@ -264,3 +267,9 @@ module _ (t : List ℕ) (c : check t ≡ 0) where
             (λ k a h. standing-most (wait_text k) 26 (wait-most k h) (facts t) few (wait t a)) 0 (order t)
             (omega (arith, e, m)),
       )
+
+  -- ---- both
+
+  pub text-most : (part : Part) → length (text_of part t) ≤ most
+  text-most Law = law-most
+  text-most Waits = waits-most

@@ -1,4 +1,5 @@
 -- Laws of bytes put into a slice: one text after the other, the place after them, and what the slice then holds.
+use mir.Val.{bool_byte}
 use mathlib.Core.Path.{◌≡◌, refl, sym, ap, subst, ◌∙◌}
 use mathlib.Core.Bool.{Bool, true, false, cond}
 use mathlib.Core.List.{List, [], ◌∷◌, ◌++◌, map, flatten, append_assoc}
@@ -14,13 +15,16 @@ use borrow.Author.Tests.{lt-ltb, le-ltb, eq-eqb, ne_eqb}
 use Rattle.semantics.specs.Base.{up_to, all_of, collect, keep, padded}
 use Rattle.semantics.specs.Mask.{has, standing}
 use Rattle.semantics.specs.Task.{facts, members, actions, check}
-use Rattle.semantics.specs.PddlWrite.{own, each, numbered, member_text, members_text, action_waits}
+use Rattle.semantics.specs.PddlWrite.{own, order, each, numbered, members_text, law_text, action_waits, waits_text}
 use Rattle.theory.proofs.Lists.{and_elim, true-all, up_to_mem, up_to_length}
 use Rattle.theory.proofs.Masks.{has-suc}
 use Rattle.theory.proofs.Loops.{up_to_at}
 use Rattle.theory.proofs.Accepted.{accepted}
 use Rattle.pddl_theory.specs.Inner.Limits.{most_facts}
 use Rattle.pddl_write.proofs.Alone.{last_has}
+use Rattle.pddl_write.specs.declared.Part.{Part}
+use Rattle.pddl_write.specs.declared.Part.TheVariants.{Law, Waits}
+use Rattle.pddl_write.specs.Inner.Parts.{of_member, text_of}
 use Rattle.pddl_write.specs.Inner.Put.{Slot, slot, most, next, put_all, Put, chosen, one, is_own}
 
 -- ---- places
@@ -167,13 +171,14 @@ module _ (p out : List ℕ) (at : ℕ) where
       → Put (chosen (eqb x i) p) out at after end
   choose-own after end o x i e h f = choose after end true (eqb x i) (sym (eq-eqb x i (sym e ∙ h))) refl f
 
-pub owned_yes : (o x i : ℕ) → o ≡ x → o ≡ i → 1 ≡ one (eqb x i)
+-- the byte of a test
+pub one_byte : (o x i : ℕ) → o ≡ x → bool_byte (eqb o i) ≡ one (eqb x i)
 unfolding one
-owned_yes o x i e h = rw (eq-eqb x i (sym e ∙ h))
-
-pub owned-no : (o x i : ℕ) → o ≡ x → (o ≡ i → ⊥) → 0 ≡ one (eqb x i)
-unfolding one
-owned-no o x i e h = rw (ne_eqb x i (λ q. h (e ∙ q)))
+one_byte o x i e = go (eqb o i) ∙ ap (λ (n : ℕ). one (eqb n i)) e
+  where
+    go : (b : Bool) → bool_byte b ≡ one b
+    go true = refl
+    go false = refl
 
 -- ---- loops that number
 
@@ -224,16 +229,6 @@ module _ {g : ℕ → ℕ → List ℕ} {p : ℕ → Bool} {m k : ℕ} {before :
 
 -- ---- loops over the members
 
--- the text of members is, where the first has action k as its first, and of a member before others
-pub record Spread (t : List ℕ) (one : ℕ → ℕ → List ℕ) (all : ℕ → List ℕ → List ℕ) : Type 0 where
-  pub none : (k : ℕ) → all k [] ≡ []
-  pub more : (k i : ℕ) (is : List ℕ) → all k (i ∷ is) ≡ one k i ++ all (k + length (own t i)) is
-
--- those below i have been put, and k is the number of the next action
-pub record Across (t : List ℕ) (all : ℕ → List ℕ → List ℕ) (before out : List ℕ) (next k i : ℕ) : Type 0 where
-  pub stage : Stage (all 0 (up_to (members t))) before 0 (all k (drop i (up_to (members t)))) out next
-  pub few : k ≤ 256 * i
-
 pub keep-few : (p : ℕ → Bool) (xs : List ℕ) → length (keep p xs) ≤ length xs
 unfolding keep collect
 keep-few p [] = omega arith
@@ -247,31 +242,6 @@ pub own-few : (t : List ℕ) (i : ℕ) → length (own t i) ≤ actions t
 unfolding own
 own-few t i = omega (arith, keep-few (is_own t i) (up_to (actions t)), up_to_length (actions t))
 
-module _ {t : List ℕ} {one : ℕ → ℕ → List ℕ} {all : ℕ → List ℕ → List ℕ} (s : Spread t one all) {before : List ℕ} where
-  pub across_begin : Across t all before before 0 0 0
-  across_begin = record { stage = stage-begin; few = omega arith }
-
-  module _ {out : List ℕ} {next k i : ℕ} (h : Across t all before out next k i) where
-    pub across_onward : {mid : List ℕ} {b : ℕ} → check t ≡ 0 → i < members t → Put (one k i) out next mid b
-        → length mid ≡ length out → (r : ℕ) → r ≡ length (own t i) → Across t all before mid b (k + r) (i + 1)
-    across_onward c l f e r q =
-        let rest = drop (i + 1) (up_to (members t)) in
-        record {
-          stage = stage-put h.stage (all (k + r) rest) f e
-              (ap (all k) (up_to_from (is_own t i) (members t) i l) ∙ s.more k i rest
-              ∙ ap (λ (x : ℕ). one k i ++ all (k + x) rest) (sym q));
-          few = omega (arith, h.few, own-few t i, (accepted t c).few-actions);
-        }
-
-    pub across_end : members t ≤ i → Put (all 0 (up_to (members t))) before 0 out next
-    across_end l =
-        let past : length (up_to (members t)) ≤ i = omega (arith, up_to_length (members t)) in
-        stage-end h.stage (ap (all k) (drop_of_length-le (up_to (members t)) past) ∙ s.none k)
-
-pub law-spread : (t : List ℕ) → Spread t (member_text t) (members_text t)
-unfolding members_text
-law-spread t = record { none = λ k. refl; more = λ k i is. refl }
-
 -- numbering goes on from one list to the next
 pub numbered-append : (g : ℕ → ℕ → List ℕ) (k : ℕ) (xs ys : List ℕ)
     → numbered g k (xs ++ ys) ≡ numbered g k xs ++ numbered g (k + length xs) ys
@@ -283,28 +253,69 @@ numbered-append g k (x ∷ xs) ys =
     (numbered-append g (suc k) xs ys ∙ ap (λ (n : ℕ). numbered g (suc k) xs ++ numbered g n ys) e)
     ∙ sym (append_assoc (g k x) (numbered g (suc k) xs) (numbered g (k + suc (length xs)) ys))
 
-abbrev pub waits_on : List ℕ → ℕ → List ℕ → List ℕ
-waits_on t k is = numbered (action_waits t) k (flatten (map (own t) is))
+-- a text of members is, where the first has action k as its first
+abbrev pub of_members : Part → List ℕ → ℕ → List ℕ → List ℕ
+of_members Law t k is = members_text t k is
+of_members Waits t k is = numbered (action_waits t) k (flatten (map (own t) is))
 
-pub waits-spread : (t : List ℕ) → Spread t (λ k i. numbered (action_waits t) k (own t i)) (waits_on t)
-unfolding numbered flatten
-waits-spread t = record {
-  none = λ k. refl;
-  more = λ k i is. numbered-append (action_waits t) k (own t i) (flatten (map (own t) is));
-}
+members-none : (part : Part) (t : List ℕ) (k : ℕ) → of_members part t k [] ≡ []
+unfolding members_text numbered flatten
+members-none Law t k = refl
+members-none Waits t k = refl
+
+members-more : (part : Part) (t : List ℕ) (k i : ℕ) (is : List ℕ)
+    → of_members part t k (i ∷ is) ≡ of_member part t k i ++ of_members part t (k + length (own t i)) is
+unfolding members_text flatten
+members-more Law t k i is = refl
+members-more Waits t k i is = numbered-append (action_waits t) k (own t i) (flatten (map (own t) is))
+
+text-members : (part : Part) (t : List ℕ) → of_members part t 0 (up_to (members t)) ≡ text_of part t
+unfolding law_text waits_text order
+text-members Law t = refl
+text-members Waits t = refl
+
+-- those below i have been put, and k is the number of the next action
+pub record Across (part : Part) (t before out : List ℕ) (next k i : ℕ) : Type 0 where
+  pub stage : Stage (text_of part t) before 0 (of_members part t k (drop i (up_to (members t)))) out next
+  pub few : k ≤ 256 * i
+
+module _ {part : Part} {t before : List ℕ} where
+  pub across_begin : Across part t before before 0 0 0
+  across_begin = record {
+    stage = record { kept = refl; same = ap (λ (p : List ℕ). put_all p (slot before 0)) (sym (text-members part t)) };
+    few = omega arith;
+  }
+
+  module _ {out : List ℕ} {next k i : ℕ} (h : Across part t before out next k i) where
+    pub across_onward : {mid : List ℕ} {b : ℕ} → check t ≡ 0 → i < members t
+        → Put (of_member part t k i) out next mid b → length mid ≡ length out → (r : ℕ) → r ≡ length (own t i)
+        → Across part t before mid b (k + r) (i + 1)
+    across_onward c l f e r q =
+        let rest = drop (i + 1) (up_to (members t)) in
+        record {
+          stage = stage-put h.stage (of_members part t (k + r) rest) f e
+              (ap (of_members part t k) (up_to_from (is_own t i) (members t) i l) ∙ members-more part t k i rest
+              ∙ ap (λ (x : ℕ). of_member part t k i ++ of_members part t (k + x) rest) (sym q));
+          few = omega (arith, h.few, own-few t i, (accepted t c).few-actions);
+        }
+
+    pub across_end : members t ≤ i → Put (text_of part t) before 0 out next
+    across_end l =
+        let past : length (up_to (members t)) ≤ i = omega (arith, up_to_length (members t)) in
+        stage-end h.stage
+        (ap (of_members part t k) (drop_of_length-le (up_to (members t)) past) ∙ members-none part t k)
 
 -- ---- facts
 
-pub facts-few : (t : List ℕ) → check t ≡ 0 → (r : ℕ) → r ≡ facts t → r ≤ most_facts
-facts-few t c r e = omega (arith, (accepted t c).few-facts)
+pub facts-few : (t : List ℕ) → check t ≡ 0 → facts t ≤ most_facts
+facts-few t c = (accepted t c).few-facts
 
 -- the facts of a mask of the task
-pub put-mask : (g : ℕ → List ℕ) (F x F' x' : ℕ) {before after : List ℕ} {at end : ℕ}
-    → Put (each g (standing F x)) before at after end → F ≡ F' → x ≡ x'
-    → Put (each g (standing F' x')) before at after end
-put-mask g F x F' x' {before} {after} {at} {end} h e q =
-    subst (λ (y : ℕ). Put (each g (standing F' y)) before at after end) q
-    (subst (λ (y : ℕ). Put (each g (standing y x)) before at after end) e h)
+pub put-mask : (g : ℕ → List ℕ) (F x x' : ℕ) {before after : List ℕ} {at end : ℕ}
+    → Put (each g (standing F x)) before at after end → x ≡ x'
+    → Put (each g (standing F x')) before at after end
+put-mask g F x x' {before} {after} {at} {end} h q =
+    subst (λ (y : ℕ). Put (each g (standing F y)) before at after end) q h
 
 -- every fact stands in the mask with every bit
 pub full-has : (k f : ℕ) → f < k → has f (2 ^ k - 1) ≡ true
@@ -333,11 +344,6 @@ pub put-all : (g : ℕ → List ℕ) (F x : ℕ) {before after : List ℕ} {at e
     → Put (each g (up_to F)) before at after end
 put-all g F x {before} {after} {at} {end} h e l =
     subst (λ (xs : List ℕ). Put (each g xs) before at after end) (ap (standing F) e ∙ standing-all F l) h
-
-pub put-below : (g : ℕ → List ℕ) (F F' : ℕ) {before after : List ℕ} {at end : ℕ}
-    → Put (each g (up_to F)) before at after end → F ≡ F' → Put (each g (up_to F')) before at after end
-put-below g F F' {before} {after} {at} {end} h e =
-    subst (λ (y : ℕ). Put (each g (up_to y)) before at after end) e h
 
 -- ---- a whole text, from the slice's front on
 

@@ -1,2 +1,3 @@
 -- Inner invariants: no promise of the public functions.
+pub mod Parts
 pub mod Put

@@ -1,13 +1,13 @@
 -- What the writer promises, over its answer and both slices.
-use Rattle.std.specs.Prelude.{List, ℕ}
-use Rattle.semantics.specs.Base.{Answer, refused, gives}
-use Rattle.semantics.specs.PddlWrite.{Lengths, Writing}
-use Rattle.pddl_write.specs.declared.Written.TheVariants.{Gives, Refused}
-use Rattle.pddl_write.specs.declared.Written.{Written}
+use Rattle.std.specs.Prelude.{List, ℕ, Result}
+use Rattle.semantics.specs.PddlWrite as PddlWrite
+use Rattle.semantics.specs.PddlWrite.{Writing}
+use Rattle.refusal.specs.Number.{answered}
+use Rattle.refusal.specs.declared.Refusal.{Refusal}
+use Rattle.pddl_write.specs.declared.Lengths.{Lengths}
 
-abbrev pub answer : Written → Answer Lengths
-answer (Gives a b) = gives (record { of_text = a; of_waits = b })
-answer (Refused k) = refused k
+abbrev pub lengths_of : Lengths → PddlWrite.Lengths
+lengths_of l = record { of_text = l.of_text; of_waits = l.of_waits }
 
-abbrev pub writing : Written → List ℕ → List ℕ → Writing
-writing r text waits = record { answer = answer r; text = text; waits = waits }
+abbrev pub writing : Result Lengths Refusal → List ℕ → List ℕ → Writing
+writing r text waits = record { answer = answered lengths_of r; text = text; waits = waits }

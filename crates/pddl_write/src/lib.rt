@@ -1,36 +1,72 @@
 // The writer of laws in PDDL. Each inner function puts its bytes into the slice from the place `at`
 // on, as far as the slice goes, and answers the place after them: in an empty slice it only counts.
+// The slice and the place stay two parameters: of a struct that holds a `&mut` each function would
+// have to promise that it keeps the same slice.
 
 #![tactic(auto)]
 
 ghost use Rattle.std.specs.Prelude.{◌≡◌, [], ◌∷◌, ◌-◌, ◌^◌, ◌≤◌, ◌<◌, length};
 ghost use Rattle.semantics.specs.Base.{up_to, padded};
 ghost use Rattle.semantics.specs.Mask.{has, standing};
-ghost use Rattle.semantics.specs.Task.{facts, members, actions, add, check};
+ghost use Rattle.semantics.specs.Task.{facts, members, actions};
 ghost use Rattle.semantics.specs.Text.{digits};
-ghost use Rattle.semantics.specs.PddlWrite.{own, each, numbered, atom_text, negation_text};
-ghost use Rattle.semantics.specs.PddlWrite.{effects_text, action_text, domain_text, goal_text};
-ghost use Rattle.semantics.specs.PddlWrite.{problem_text, member_text, law_text, wait_text};
-ghost use Rattle.semantics.specs.PddlWrite.{action_waits, waits_text, write_pddl};
+ghost use Rattle.semantics.specs.PddlWrite.{own, each, numbered, atom_text, effects_text};
+ghost use Rattle.semantics.specs.PddlWrite.{action_text, domain_text, goal_text, problem_text};
+ghost use Rattle.semantics.specs.PddlWrite.{write_pddl};
 ghost use Rattle.mask.specs.Number.{number};
 ghost use Rattle.pddl_theory.specs.Inner.Limits.{most_facts};
 ghost use Rattle.pddl_write.specs.Inner.Put.{most, next, Put, between, chosen, one};
 ghost use Rattle.pddl_write.specs.Inner.Put.{is_own};
+ghost use Rattle.pddl_write.specs.Inner.Parts.{told_as, of_action, of_member, text_of};
 ghost use Rattle.pddl_write.specs.Post.{writing};
 
 use mask::Mask;
+use refusal::Refusal;
+use task::Task;
 
 // The bytes of the longest text; no place goes past it.
 const MOST: usize = 1_048_576;
 
-// A word with every bit.
-const ALL: u64 = 18446744073709551615;
-
-// The answer: the lengths of both texts, or a refusal.
+// The lengths of both texts.
 #[derive(Clone, Copy)]
-pub enum Written {
-    Gives(usize, usize),
-    Refused(u64),
+pub struct Lengths {
+    pub of_text: usize,
+    pub of_waits: usize,
+}
+
+// Which of the two texts is written.
+#[derive(Clone, Copy)]
+enum Part {
+    Law,
+    Waits,
+}
+
+// How a fact is told: as an atom, as an atom negated, or in the record that action number k of the
+// grouped task waits for it.
+#[derive(Clone, Copy)]
+enum Form {
+    Atom,
+    Negation,
+    Wait(usize),
+}
+
+// An action of a task, and its number in the grouped task.
+#[derive(Clone, Copy)]
+struct Action<'a> {
+    task: Task<'a>,
+    index: usize,
+    number: usize,
+    ghost inside: { index < actions task.words.now },
+}
+
+// A member of a task, and the number of its first action in the grouped task.
+#[derive(Clone, Copy)]
+struct Member<'a> {
+    task: Task<'a>,
+    index: usize,
+    first: usize,
+    ghost inside: { index < members task.words.now },
+    ghost few: { first ≤ most },
 }
 
 // The place after this one.
@@ -54,15 +90,13 @@ fn put(out: &mut [u8], at: usize, bytes: &[u8]) -> usize
     ensures { Put bytes.now out.old at out.new result }
 {
     let mut next = at;
-    let mut i = 0;
-    while i < bytes.len() {
-        next = put_byte(out, next, bytes[i]);
-        i += 1;
+    for byte in bytes {
+        next = put_byte(out, next, *byte);
     }
     next
 }
 
-// In base ten.
+// In base ten. The one of `report` asks for room, and so cannot count.
 fn put_number(out: &mut [u8], at: usize, v: u64) -> usize
     ensures { Put (digits v) out.old at out.new result }
 {
@@ -83,31 +117,42 @@ fn put_told(out: &mut [u8], at: usize, before: &[u8], v: u64, after: &[u8]) -> u
     put(out, end, after)
 }
 
-// Fact f, if it stands in the mask.
-fn put_fact(out: &mut [u8], at: usize, before: &[u8], after: &[u8], m: Mask, f: u64) -> usize
+// Fact f.
+fn put_form(out: &mut [u8], at: usize, form: Form, f: u64) -> usize
+    ensures { Put (told_as form f) out.old at out.new result }
+{
+    match form {
+        Form::Atom => put_told(out, at, b" (f", f, b")"),
+        Form::Negation => put_told(out, at, b" (not (f", f, b"))"),
+        Form::Wait(k) => {
+            let comma = put_number(out, at, k as u64);
+            put_told(out, comma, b",", f, b"\r\n")
+        }
+    }
+}
+
+// Fact f, if it stands in the mask. The one of `report` asks for room, and so cannot count.
+fn put_fact(out: &mut [u8], at: usize, form: Form, m: Mask, f: u64) -> usize
     requires { f < most_facts }
     ensures { Put
-        (chosen (has f (number m)) (between before.now after.now f))
+        (chosen (has f (number m)) (told_as form f))
         out.old at out.new result }
 {
     if mask::has(m, f) {
-        return put_told(out, at, before, f, after);
+        return put_form(out, at, form, f);
     }
     at
 }
 
-// The facts that stand in the mask.
-fn put_facts(out: &mut [u8], at: usize, before: &[u8], after: &[u8], m: Mask, facts: u64) -> usize
-    requires { facts ≤ most_facts }
+// The facts of the task that stand in the mask.
+fn put_facts(out: &mut [u8], at: usize, t: &Task, form: Form, m: Mask) -> usize
     ensures { Put
-        (each (between before.now after.now) (standing facts (number m)))
+        (each (told_as form) (standing (facts t.now.words.now) (number m)))
         out.old at out.new result }
 {
     let mut next = at;
-    let mut f = 0;
-    while f < facts {
-        next = put_fact(out, next, before, after, m, f);
-        f += 1;
+    for f in 0..t.facts() {
+        next = put_fact(out, next, form, m, f);
     }
     next
 }
@@ -116,351 +161,220 @@ fn put_facts(out: &mut [u8], at: usize, before: &[u8], after: &[u8], m: Mask, fa
 fn all() -> Mask
     ensures { number result ≡ 2 ^ most_facts - 1 }
 {
-    mask::of_words(ALL, ALL)
-}
-
-// The facts of the mask as atoms.
-fn put_atoms(out: &mut [u8], at: usize, m: Mask, facts: u64) -> usize
-    requires { facts ≤ most_facts }
-    ensures { Put (each atom_text (standing facts (number m))) out.old at
-        out.new result }
-{
-    put_facts(out, at, b" (f", b")", m, facts)
-}
-
-// The facts of the mask, negated.
-fn put_negations(out: &mut [u8], at: usize, m: Mask, facts: u64) -> usize
-    requires { facts ≤ most_facts }
-    ensures { Put (each negation_text (standing facts (number m))) out.old at
-        out.new result }
-{
-    put_facts(out, at, b" (not (f", b"))", m, facts)
+    Mask::from([u64::MAX; 2])
 }
 
 // All facts as atoms.
-fn put_predicates(out: &mut [u8], at: usize, facts: u64) -> usize
-    requires { facts ≤ most_facts }
-    ensures { Put (each atom_text (up_to facts)) out.old at out.new result }
+fn put_predicates(out: &mut [u8], at: usize, t: &Task) -> usize
+    ensures { Put (each atom_text (up_to (facts t.now.words.now)))
+        out.old at out.new result }
 {
-    put_atoms(out, at, all(), facts)
+    put_facts(out, at, t, Form::Atom, all())
 }
 
-// F.
-fn facts(t: &[u64]) -> u64
-    requires { check t.now ≡ 0 }
-    ensures value { result ≡ facts t.now }
-    ensures upper_bound { result ≤ most_facts }
+// What an action makes true, those facts that it makes false too among them, then what it makes
+// false.
+fn put_effects(out: &mut [u8], at: usize, a: &Action) -> usize
+    ensures { Put (effects_text a.now.task.words.now a.now.index)
+        out.old at out.new result }
 {
-    task::facts(t)
-}
-
-// The facts that action a makes true, those that it makes false too among them.
-fn made(t: &[u64], a: usize) -> Mask
-    requires t_value { check t.now ≡ 0 }
-    requires a_bound { a < actions t.now }
-    ensures { number result ≡ add t.now a }
-{
-    task::add(t, a)
-}
-
-// What an action makes true, then what it makes false.
-fn put_effects(out: &mut [u8], at: usize, t: &[u64], a: usize) -> usize
-    requires t_value { check t.now ≡ 0 }
-    requires a_bound { a < actions t.now }
-    ensures { Put (effects_text t.now a) out.old at
-        out.new result }
-{
-    let below = facts(t);
     let adds = put(out, at, b")\n  :effect (and");
-    let dels = put_atoms(out, adds, made(t, a), below);
-    let end = put_negations(out, dels, task::del(t, a), below);
+    let dels = put_facts(out, adds, &a.task, Form::Atom, a.task.add(a.index));
+    let end = put_facts(out, dels, &a.task, Form::Negation, a.task.del(a.index));
     put(out, end, b"))")
 }
 
-// Action a, which is number k of the grouped task.
-fn put_action(out: &mut [u8], at: usize, t: &[u64], k: usize, a: usize) -> usize
-    requires t_value { check t.now ≡ 0 }
-    requires a_bound { a < actions t.now }
-    ensures { Put (action_text t.now k a) out.old at
-        out.new result }
+fn put_action(out: &mut [u8], at: usize, a: &Action) -> usize
+    ensures { Put (action_text a.now.task.words.now a.now.number a.now.index)
+        out.old at out.new result }
 {
     let pre = put_told(
         out,
         at,
         b"\n (:action a",
-        k as u64,
+        a.number as u64,
         b"\n  :parameters ()\n  :precondition (and",
     );
-    let effects = put_atoms(out, pre, task::pre(t, a), facts(t));
-    put_effects(out, effects, t, a)
+    let effects = put_facts(out, pre, &a.task, Form::Atom, a.task.pre(a.index));
+    put_effects(out, effects, a)
+}
+
+// What the text has of the action.
+fn put_part(out: &mut [u8], at: usize, part: Part, a: &Action) -> usize
+    ensures { Put
+        (of_action part a.now.task.words.now a.now.number a.now.index)
+        out.old at out.new result }
+{
+    match part {
+        Part::Law => put_action(out, at, a),
+        Part::Waits => {
+            let form = Form::Wait(a.number);
+            put_facts(out, at, &a.task, form, a.task.wait(a.index))
+        }
+    }
+}
+
+// The same, if the action is member i's.
+fn put_owned(out: &mut [u8], at: usize, part: Part, a: &Action, i: usize) -> usize
+    ensures { Put
+        (chosen
+        (is_own a.now.task.words.now i a.now.index)
+        (of_action part a.now.task.words.now a.now.number a.now.index))
+        out.old at out.new result }
+{
+    if a.task.owner(a.index) != i {
+        return at;
+    }
+    put_part(out, at, part, a)
 }
 
 // 1 where action a is member i's, else 0.
-fn owned(t: &[u64], a: usize, i: usize) -> usize
-    requires t_value { check t.now ≡ 0 }
-    requires a_bound { a < actions t.now }
-    ensures value { result ≡ one (is_own t.now i a) }
+fn owned(t: &Task, a: usize, i: usize) -> usize
+    requires { a < actions t.now.words.now }
+    ensures value { result ≡ one (is_own t.now.words.now i a) }
     ensures upper_bound { result ≤ 1 }
 {
-    if task::owner(t, a) == i { 1 } else { 0 }
+    usize::from(t.owner(a) == i)
 }
 
-// Action a, if it is member i's; then it is number k of the grouped task.
-fn put_owned(out: &mut [u8], at: usize, t: &[u64], k: usize, a: usize, i: usize) -> usize
-    requires t_value { check t.now ≡ 0 }
-    requires a_bound { a < actions t.now }
-    ensures { Put (chosen (is_own t.now i a) (action_text t.now k a))
+// The member's actions.
+fn put_actions(out: &mut [u8], at: usize, part: Part, m: &Member) -> usize
+    ensures { Put
+        (numbered
+        (of_action part m.now.task.words.now)
+        m.now.first
+        (own m.now.task.words.now m.now.index))
         out.old at out.new result }
 {
-    if task::owner(t, a) != i {
-        return at;
-    }
-    put_action(out, at, t, k, a)
-}
-
-// Member i's actions, numbered from k on.
-fn put_actions(out: &mut [u8], at: usize, t: &[u64], k: usize, i: usize) -> usize
-    requires t_value { check t.now ≡ 0 }
-    requires k_le_most { k ≤ most }
-    ensures { Put (numbered (action_text t.now) k (own t.now i))
-        out.old at out.new result }
-{
-    let m = task::actions(t);
     let mut next = at;
-    let mut number = k;
-    let mut a = 0;
-    while a < m {
-        next = put_owned(out, next, t, number, a, i);
-        number += owned(t, a, i);
-        a += 1;
+    let mut number = m.first;
+    for index in 0..m.task.actions() {
+        let action = Action {
+            task: m.task,
+            index,
+            number,
+        };
+        next = put_owned(out, next, part, &action, m.index);
+        number += owned(&m.task, index, m.index);
     }
     next
 }
 
-// How many actions member i has.
-fn count(t: &[u64], i: usize) -> usize
-    requires { check t.now ≡ 0 }
-    ensures { result ≡ length (own t.now i) }
+// How many actions the member has.
+fn count(m: &Member) -> usize
+    ensures { result ≡ length (own m.now.task.words.now m.now.index) }
 {
-    let m = task::actions(t);
     let mut n = 0;
-    let mut a = 0;
-    while a < m {
-        n += owned(t, a, i);
-        a += 1;
+    for a in 0..m.task.actions() {
+        n += owned(&m.task, a, m.index);
     }
     n
 }
 
-// Member i's domain; k is the number of its first action.
-fn put_domain(out: &mut [u8], at: usize, t: &[u64], k: usize, i: usize) -> usize
-    requires t_value { check t.now ≡ 0 }
-    requires k_le_most { k ≤ most }
-    ensures { Put (domain_text t.now k i) out.old at
-        out.new result }
+fn put_domain(out: &mut [u8], at: usize, m: &Member) -> usize
+    ensures { Put (domain_text m.now.task.words.now m.now.first m.now.index)
+        out.old at out.new result }
 {
     let predicates = put_told(
         out,
         at,
         b"(define (domain member",
-        i as u64,
+        m.index as u64,
         b")\n (:predicates",
     );
-    let paren = put_predicates(out, predicates, facts(t));
+    let paren = put_predicates(out, predicates, &m.task);
     let actions = put(out, paren, b")");
-    let end = put_actions(out, actions, t, k, i);
+    let end = put_actions(out, actions, Part::Law, m);
     put(out, end, b")\n")
 }
 
-// Member i's goal.
-fn put_goal(out: &mut [u8], at: usize, t: &[u64], i: usize) -> usize
-    requires t_value { check t.now ≡ 0 }
-    requires i_bound { i < members t.now }
-    ensures { Put (goal_text t.now i) out.old at out.new result }
+fn put_goal(out: &mut [u8], at: usize, m: &Member) -> usize
+    ensures { Put (goal_text m.now.task.words.now m.now.index)
+        out.old at out.new result }
 {
     let atoms = put(out, at, b")\n (:goal (and");
-    let end = put_atoms(out, atoms, task::goal(t, i), facts(t));
+    let end = put_facts(out, atoms, &m.task, Form::Atom, m.task.goal(m.index));
     put(out, end, b")))\n")
 }
 
-// Member i's problem.
-fn put_problem(out: &mut [u8], at: usize, t: &[u64], i: usize) -> usize
-    requires t_value { check t.now ≡ 0 }
-    requires i_bound { i < members t.now }
-    ensures { Put (problem_text t.now i) out.old at
-        out.new result }
-{
-    let domain = put_told(out, at, b"(define (problem member", i as u64, b")");
-    let initial = put_told(out, domain, b"\n (:domain member", i as u64, b")\n (:init");
-    let goal = put_atoms(out, initial, task::initial(t), facts(t));
-    put_goal(out, goal, t, i)
-}
-
-// Member i; k is the number of its first action.
-fn put_member(out: &mut [u8], at: usize, t: &[u64], k: usize, i: usize) -> usize
-    requires t_value { check t.now ≡ 0 }
-    requires k_le_most { k ≤ most }
-    requires i_bound { i < members t.now }
-    ensures { Put (member_text t.now k i) out.old at
-        out.new result }
-{
-    let problem = put_domain(out, at, t, k, i);
-    put_problem(out, problem, t, i)
-}
-
-// The text of the law.
-fn put_law(out: &mut [u8], t: &[u64]) -> usize
-    requires { check t.now ≡ 0 }
-    ensures { Put (law_text t.now) out.old 0 out.new result }
-{
-    let n = task::members(t);
-    let mut next = 0;
-    let mut k = 0;
-    let mut i = 0;
-    while i < n {
-        next = put_member(out, next, t, k, i);
-        k += count(t, i);
-        i += 1;
-    }
-    next
-}
-
-// The record of fact f, if it stands in the mask, for action number k.
-fn put_record(out: &mut [u8], at: usize, k: usize, m: Mask, f: u64) -> usize
-    requires { f < most_facts }
-    ensures { Put (chosen (has f (number m)) (wait_text k f)) out.old at
-        out.new result }
-{
-    if mask::has(m, f) {
-        let comma = put_number(out, at, k as u64);
-        return put_told(out, comma, b",", f, b"\r\n");
-    }
-    at
-}
-
-// The records of the facts in the mask.
-fn put_records(out: &mut [u8], at: usize, k: usize, m: Mask, facts: u64) -> usize
-    requires { facts ≤ most_facts }
-    ensures { Put (each (wait_text k) (standing facts (number m))) out.old at
-        out.new result }
-{
-    let mut next = at;
-    let mut f = 0;
-    while f < facts {
-        next = put_record(out, next, k, m, f);
-        f += 1;
-    }
-    next
-}
-
-// The waits of action a, if it is member i's; then it is number k of the grouped task.
-fn put_owned_waits(out: &mut [u8], at: usize, t: &[u64], k: usize, a: usize, i: usize) -> usize
-    requires t_value { check t.now ≡ 0 }
-    requires a_bound { a < actions t.now }
-    ensures { Put (chosen (is_own t.now i a) (action_waits t.now k a))
+fn put_problem(out: &mut [u8], at: usize, m: &Member) -> usize
+    ensures { Put (problem_text m.now.task.words.now m.now.index)
         out.old at out.new result }
 {
-    if task::owner(t, a) != i {
-        return at;
-    }
-    put_records(out, at, k, task::wait(t, a), facts(t))
+    let i = m.index as u64;
+    let domain = put_told(out, at, b"(define (problem member", i, b")");
+    let initial = put_told(out, domain, b"\n (:domain member", i, b")\n (:init");
+    let goal = put_facts(out, initial, &m.task, Form::Atom, m.task.initial());
+    put_goal(out, goal, m)
 }
 
-// The waits of member i's actions, numbered from k on.
-fn put_member_waits(out: &mut [u8], at: usize, t: &[u64], k: usize, i: usize) -> usize
-    requires t_value { check t.now ≡ 0 }
-    requires k_le_most { k ≤ most }
-    ensures { Put (numbered (action_waits t.now) k (own t.now i))
+// What the text has of the member.
+fn put_member(out: &mut [u8], at: usize, part: Part, m: &Member) -> usize
+    ensures { Put
+        (of_member part m.now.task.words.now m.now.first m.now.index)
         out.old at out.new result }
 {
-    let m = task::actions(t);
-    let mut next = at;
-    let mut number = k;
-    let mut a = 0;
-    while a < m {
-        next = put_owned_waits(out, next, t, number, a, i);
-        number += owned(t, a, i);
-        a += 1;
+    match part {
+        Part::Law => {
+            let problem = put_domain(out, at, m);
+            put_problem(out, problem, m)
+        }
+        Part::Waits => put_actions(out, at, part, m),
     }
-    next
 }
 
-// The text of the waits.
-fn put_waits(out: &mut [u8], t: &[u64]) -> usize
-    requires { check t.now ≡ 0 }
-    ensures { Put (waits_text t.now) out.old 0 out.new result }
+// The whole text.
+fn put_text(out: &mut [u8], t: &Task, part: Part) -> usize
+    ensures { Put (text_of part t.now.words.now) out.old 0 out.new result }
 {
-    let n = task::members(t);
     let mut next = 0;
-    let mut k = 0;
-    let mut i = 0;
-    while i < n {
-        next = put_member_waits(out, next, t, k, i);
-        k += count(t, i);
-        i += 1;
+    let mut first = 0;
+    for index in 0..t.members() {
+        let member = Member {
+            task: *t,
+            index,
+            first,
+        };
+        next = put_member(out, next, part, &member);
+        first += count(&member);
     }
     next
 }
 
-// How long the text of the law is.
-fn law_length(t: &[u64]) -> usize
-    requires { check t.now ≡ 0 }
-    ensures { result ≡ length (law_text t.now) }
+// How long the text is.
+fn text_length(t: &Task, part: Part) -> usize
+    ensures { result ≡ length (text_of part t.now.words.now) }
 {
     let mut none = [0; 0];
-    put_law(&mut none, t)
+    put_text(&mut none, t, part)
 }
 
-// How long the text of the waits is.
-fn waits_length(t: &[u64]) -> usize
-    requires { check t.now ≡ 0 }
-    ensures { result ≡ length (waits_text t.now) }
+// The text, and zeros after it.
+fn fill(out: &mut [u8], t: &Task, part: Part)
+    requires { length (text_of part t.now.words.now) ≤ length out.old }
+    ensures { out.new
+        ≡ padded (length out.old) (text_of part t.now.words.now) }
 {
-    let mut none = [0; 0];
-    put_waits(&mut none, t)
-}
-
-// The text of the law, and zeros after it.
-fn fill_law(t: &[u64], text: &mut [u8])
-    requires t_value { check t.now ≡ 0 }
-    requires t_in_bounds { length (law_text t.now) ≤ length text.old }
-    ensures { text.new
-        ≡ padded (length text.old) (law_text t.now) }
-{
-    let end = put_law(text, t);
-    rows::clear_bytes(text, end);
-}
-
-// The text of the waits, and zeros after it.
-fn fill_waits(t: &[u64], waits: &mut [u8])
-    requires t_value { check t.now ≡ 0 }
-    requires t_in_bounds { length (waits_text t.now) ≤ length waits.old }
-    ensures { waits.new
-        ≡ padded (length waits.old) (waits_text t.now) }
-{
-    let end = put_waits(waits, t);
-    rows::clear_bytes(waits, end);
+    let end = put_text(out, t, part);
+    rows::fill_from(out, end, 0);
 }
 
 // The writer: both texts go to the fronts of their slices, zeros after them, and the answer is
 // their lengths; or a refusal, and nothing is written.
-pub fn write(task: &[u64], text: &mut [u8], waits: &mut [u8]) -> Written
+pub fn write(task: &[u64], text: &mut [u8], waits: &mut [u8]) -> Result<Lengths, Refusal>
     ensures { writing result text.new waits.new
         ≡ write_pddl task.now text.old waits.old }
 {
-    let refusal = task::check(task);
-    if refusal != 0 {
-        return Written::Refused(refusal);
-    }
-    let of_text = law_length(task);
-    let of_waits = waits_length(task);
+    let t = task::check(task)?;
+    let of_text = text_length(&t, Part::Law);
+    let of_waits = text_length(&t, Part::Waits);
     if text.len() < of_text {
-        return Written::Refused(14);
+        return Err(Refusal::Short);
     }
     if waits.len() < of_waits {
-        return Written::Refused(14);
+        return Err(Refusal::Short);
     }
-    fill_law(task, text);
-    fill_waits(task, waits);
-    Written::Gives(of_text, of_waits)
+    fill(text, &t, Part::Law);
+    fill(waits, &t, Part::Waits);
+    Ok(Lengths { of_text, of_waits })
 }

@@ -4,4 +4,3 @@ pub mod Longest
 pub mod RoundTrip
 pub mod Scanning
 pub mod Stands
-pub mod Steps

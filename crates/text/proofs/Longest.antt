@@ -17,7 +17,8 @@ use Rattle.semantics.specs.Text.{no_leading_zero, is_field, is_record, is_text, 
 use Rattle.text.proofs.Lists.{cond_ind, and_left, and_right, number-snoc, number-one, field_first}
 use Rattle.text.proofs.Scanning.{too_short, no_text}
 use Rattle.text.specs.Post.{most_words, reading}
-use Rattle.text.specs.declared.TextRead.TheVariants.{Refused}
+use Rattle.refusal.specs.declared.Refusal.TheVariants as reason
+use Rattle.std.specs.Prelude.{Err}
 
 -- the digits of a field: 2^64 - 1 has 20
 abbrev pub most_digits : ℕ
@@ -172,7 +173,7 @@ any-number w text = rw (le-leb (length (records text)) (length text) (omega (ari
 -- a longer text is refused with 15, whatever it is
 module _ (w n : ℕ) (refusal : List ℕ → ℕ) (text words : List ℕ) where
   pub long-records-refused : text_bytes w n < length text → w * n ≤ length words
-      → read_records w n refusal text words ≡ reading (Refused 15) (zeroed words)
+      → read_records w n refusal text words ≡ reading (Err reason.Text) (zeroed words)
   long-records-refused l long = sym (no_text w n refusal text words long (long-no-text w n text l))
 
 -- the answer to a text is the answer to its front, one byte longer than the longest
@@ -199,7 +200,7 @@ read-records-front w n refusal text words =
 
 -- of a task's text: 50,350 bytes at most, so its first 50,351 tell
 pub long-refused : (text words : List ℕ) → most_bytes < length text → most_words ≤ length words
-    → read_text text words ≡ reading (Refused 15) (zeroed words)
+    → read_text text words ≡ reading (Err reason.Text) (zeroed words)
 unfolding read_text
 long-refused text words l long = long-records-refused row_width most_records check text words l long
 

@@ -8,7 +8,7 @@ use native.Mathlib.Omega.{arith}
 use lib.ListN.{length, take, drop, length-map, length-drop, take-append-drop}
 use lib.Seq.{length-take-le}
 use lib.Dec.{eqb, ltb}
-use borrow.Author.Tests.{ltb-true, ltb-false, ne_eqb}
+use borrow.Author.Tests.{le-leb, ltb-true, ltb-false, ne_eqb}
 use Rattle.semantics.specs.Base.{all_of, gives, padded}
 use Rattle.semantics.specs.Task.{row_width, check}
 use Rattle.semantics.specs.Text.{comma, cr, lf, most_records, is_digit, records_from, records, fields_from, fields, number}
@@ -17,13 +17,17 @@ use Rattle.text.proofs.Lists.{cond_ind, and_left, and_right, all_append, all_one
 use Rattle.text.proofs.Lists.{number-snoc, number-one, digit_low, field_digits, field_none, field_one}
 use Rattle.text.proofs.Lists.{field_more, fields-comma, fields-byte, fields-last, record_made, records-end}
 use Rattle.text.proofs.Lists.{records-line, records-byte, words_of, words-text, text-good}
-use Rattle.text.proofs.Steps.{digit}
 use Rattle.text.proofs.Scanning.{accepts}
 use Rattle.text.specs.Post.{most_words, reading}
-use Rattle.text.specs.declared.TextRead.TheVariants.{Gives}
+use Rattle.std.specs.Prelude.{Ok}
 use Rattle.text.specs.Inner.Written.{row, written, unended, is_word}
 
 -- ---- digits
+
+digit : (b : ℕ) → 48 ≤ b → b < 58 → is_digit b ≡ true
+digit b l h =
+    let g : b ≤ 57 = omega arith in
+    rw (le-leb 48 b l, le-leb b 57 g)
 
 pub digits_field : (most n : ℕ) → n ≤ most → n < 2 ^ 64
     → (is_field (digits_in most n) ≡ true) × (number (digits_in most n) ≡ n)
@@ -249,7 +253,7 @@ pub reads-words : (w n : ℕ) (refusal : List ℕ → ℕ) (text ws out : List �
     → read_records w n refusal text out ≡ record { answer = gives r; words = padded (length out) ws }
 reads-words w n refusal text ws out r h l c =
     sym (accepts w n refusal text out l r h.good (ap refusal h.words ∙ c) (sym h.count))
-    ∙ ap (λ (xs : List ℕ). reading (Gives r) (padded (length out) xs)) h.words
+    ∙ ap (λ (xs : List ℕ). reading (Ok r) (padded (length out) xs)) h.words
 
 -- the text reader gives a task's words back
 pub reads-task : (text ws out : List ℕ) (r : ℕ) → ReadsBack row_width most_records text ws r → most_words ≤ length out

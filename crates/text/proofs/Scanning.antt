@@ -2,6 +2,7 @@
 use mathlib.Core.Path.{◌≡◌, refl, sym, ap, ap₂, subst, ◌∙◌}
 use mathlib.Core.List.{List, [], ◌∷◌, ◌++◌}
 use mathlib.Core.Bool.{true, false}
+use Rattle.std.specs.Prelude.{Option, Some, None, Result, Ok, Err}
 use Prim.Native.Nat.{ℕ, zero, suc, ◌+◌, ◌-◌, ◌*◌, ◌^◌, ◌≤◌, ◌<◌}
 use native.Mathlib.Nat.{sub-zero}
 use native.Mathlib.Numerals.{add-one}
@@ -13,7 +14,7 @@ use mir.Syntax.{w64}
 use mir.Val.{Fits}
 use Rattle.semantics.specs.Base.{padded, zeroed}
 use Rattle.semantics.specs.Task.{row_width, check}
-use Rattle.semantics.specs.Text.{most_records, records, is_text, text_words, read_records, read_text}
+use Rattle.semantics.specs.Text.{most_records, records, is_text, text_words, refused_with, read_records, read_text}
 use Rattle.text.proofs.Stands.{Stands, After, AtEnd, Whole, stands-first, stands-next, stands-last, reach}
 use Rattle.text.specs.Inner.Byte.{ByteMeans}
 use Rattle.text.specs.Inner.Place.{at, InReach, step_of, last_of}
@@ -22,13 +23,13 @@ use Rattle.text.specs.declared.Byte.{Byte}
 use Rattle.text.specs.declared.Field.TheVariants.{Empty}
 use Rattle.text.specs.declared.Place.{Place}
 use Rattle.text.specs.declared.Turn.{Turn}
-use Rattle.text.specs.declared.Turn.TheVariants.{On, Word, Bad}
+use Rattle.text.specs.declared.Turn.TheVariants.{On, Word}
 use Rattle.text.specs.declared.Last.{Last}
-use Rattle.text.specs.declared.Last.TheVariants.{Records, Word as LastWord, Bad as BadEnd}
-use Rattle.text.specs.declared.Scan.{Scan}
-use Rattle.text.specs.declared.Scan.TheVariants.{Records as Read, Bad as NoText}
-use Rattle.text.specs.declared.TextRead.{TextRead}
-use Rattle.text.specs.declared.TextRead.TheVariants.{Refused, Gives}
+use Rattle.text.specs.declared.Last.TheVariants.{Records, Word as LastWord}
+use Rattle.refusal.specs.declared.Refusal.{Refusal}
+use Rattle.refusal.specs.declared.Refusal.TheVariants as reason
+use Rattle.refusal.specs.Number.{number}
+use Rattle.refusal.proofs.Laws.{number-positive}
 
 -- the first i bytes are read, and their words are the first count of the slice
 pub record Scanning (w n : ℕ) (text words₀ words : List ℕ) (place : Place) (count i : ℕ) : Type 0 where
@@ -63,7 +64,7 @@ module _ {w n : ℕ} {text words₀ words : List ℕ} {place : Place} {count i :
   }
 
   -- the next byte, and what it leads to
-  module _ (byte : Byte) (r : Turn) (more : i < length text) (sorted : ByteMeans (get_or text i 0) byte)
+  module _ (byte : Byte) (r : Option Turn) (more : i < length text) (sorted : ByteMeans (get_or text i 0) byte)
       (led : r ≡ step_of w n place byte) where
     turned : After w n text (take count words) (drop (i + 1) text) r
     turned =
@@ -74,7 +75,7 @@ module _ {w n : ℕ} {text words₀ words : List ℕ} {place : Place} {count i :
         (drop-cons text i 0 more) s.stands)
         byte sorted))
 
-    pub onward : (q : Place) → r ≡ On q → Scanning w n text words₀ words q count (i + 1)
+    pub onward : (q : Place) → r ≡ Some (On q) → Scanning w n text words₀ words q count (i + 1)
     onward q e = record {
       within = omega arith;
       room = s.room;
@@ -83,19 +84,13 @@ module _ {w n : ℕ} {text words₀ words : List ℕ} {place : Place} {count i :
       stands = subst (After w n text (take count words) (drop (i + 1) text)) e turned;
     }
 
-    module _ (v : ℕ) (q : Place) (e : r ≡ Word v q) where
+    module _ (v : ℕ) (q : Place) (e : r ≡ Some (Word v q)) where
       read-on : (length (take count words) < w * n)
           × Stands w n text (take count words ++ (v ∷ [])) q.records q.fields q.field (drop (i + 1) text)
       read-on = subst (After w n text (take count words) (drop (i + 1) text)) e turned
 
       pub word_room : count < length words
       word_room = omega (arith, read-on.0, length-take-le count words s.room, s.enough)
-
-      pub index_fits : length words₀ * 8 < 2 ^ 63 → Fits w64 (count * 8)
-      index_fits h = record { fits = omega (arith, word_room, s.kept) }
-
-      pub count_fits : length words₀ * 8 < 2 ^ 63 → Fits w64 (count + 1)
-      count_fits h = record { fits = omega (arith, word_room, s.kept) }
 
       pub word_on : Scanning w n text words₀ (set words count v) q (count + 1) (i + 1)
       word_on = record {
@@ -109,11 +104,11 @@ module _ {w n : ℕ} {text words₀ words : List ℕ} {place : Place} {count i :
             read-on.1;
       }
 
-    pub out : r ≡ Bad → is_text w n text ≡ false
+    pub out : r ≡ None → is_text w n text ≡ false
     out e = subst (After w n text (take count words) (drop (i + 1) text)) e turned
 
   -- the end of the text, and what it leads to
-  module _ (r : Last) (over : length text ≤ i) (led : r ≡ last_of w place) where
+  module _ (r : Option Last) (over : length text ≤ i) (led : r ≡ last_of w place) where
     finished : AtEnd w n text (take count words) r
     finished =
         subst (AtEnd w n text (take count words)) (sym led)
@@ -121,7 +116,7 @@ module _ {w n : ℕ} {text words₀ words : List ℕ} {place : Place} {count i :
         (subst (Stands w n text (take count words) place.records place.fields place.field)
         (drop_of_length-le text {i = i} over) s.stands))
 
-    pub all_found : (k : ℕ) → r ≡ Records k → Found w n text words k
+    pub all_found : (k : ℕ) → r ≡ Some (Records k) → Found w n text words k
     all_found k e =
         let whole : Whole w n text (take count words) k = subst (AtEnd w n text (take count words)) e finished in
         let z : count ≡ w * k = sym (length-take-le count words s.room) ∙ whole.size in
@@ -132,15 +127,12 @@ module _ {w n : ℕ} {text words₀ words : List ℕ} {place : Place} {count i :
           words = whole.words ∙ ap (λ (m : ℕ). take m words) z;
         }
 
-    module _ (v k : ℕ) (e : r ≡ LastWord v k) where
+    module _ (v k : ℕ) (e : r ≡ Some (LastWord v k)) where
       read-last : (length (take count words) < w * n) × Whole w n text (take count words ++ (v ∷ [])) k
       read-last = subst (AtEnd w n text (take count words)) e finished
 
       pub last-room : count < length words
       last-room = omega (arith, read-last.0, length-take-le count words s.room, s.enough)
-
-      pub last_fits : length words₀ * 8 < 2 ^ 63 → Fits w64 (count * 8)
-      last_fits h = record { fits = omega (arith, last-room, s.kept) }
 
       pub last_found : Found w n text (set words count v) k
       last_found =
@@ -157,29 +149,33 @@ module _ {w n : ℕ} {text words₀ words : List ℕ} {place : Place} {count i :
             words = whole.words ∙ sym t ∙ ap (λ (m : ℕ). take m (set words count v)) z;
           }
 
-    pub no_end : r ≡ BadEnd → is_text w n text ≡ false
+    pub no_end : r ≡ None → is_text w n text ≡ false
     no_end e = subst (AtEnd w n text (take count words)) e finished
 
 -- ---- the reader's meaning, case by case
 
 module _ (w n : ℕ) (refusal : List ℕ → ℕ) (text words : List ℕ) where
-  pub too_short : length words < w * n → reading (Refused 14) words ≡ read_records w n refusal text words
+  pub too_short : length words < w * n → reading (Err reason.Short) words ≡ read_records w n refusal text words
   unfolding read_records
   too_short h = rw (lt-ltb (length words) (w * n) h)
 
   module _ (long : w * n ≤ length words) where
-    pub no_text : is_text w n text ≡ false → reading (Refused 15) (zeroed words) ≡ read_records w n refusal text words
+    pub no_text : is_text w n text ≡ false → reading (Err reason.Text) (zeroed words) ≡ read_records w n refusal text words
     unfolding read_records
     no_text h = rw (le-ltb (length words) (w * n) long, h)
 
-    pub refuses : (r : ℕ) → is_text w n text ≡ true → r ≡ refusal (text_words text) → (r ≡ 0 → ⊥)
-        → reading (Refused r) (zeroed words) ≡ read_records w n refusal text words
+    refuses-with : (r : ℕ) → 0 < r → is_text w n text ≡ true → r ≡ refusal (text_words text)
+        → refused_with (zeroed words) r ≡ read_records w n refusal text words
     unfolding read_records
-    refuses zero h e z = absurd (z refl)
-    refuses (suc r) h e z = rw (le-ltb (length words) (w * n) long, h, ← e)
+    refuses-with zero z h e = absurd (omega arith)
+    refuses-with (suc r) z h e = rw (le-ltb (length words) (w * n) long, h, ← e)
+
+    pub refuses : (e : Refusal) → is_text w n text ≡ true → number e ≡ refusal (text_words text)
+        → reading (Err e) (zeroed words) ≡ read_records w n refusal text words
+    refuses e h k = refuses-with (number e) (number-positive e) h k
 
     pub accepts : (r : ℕ) → is_text w n text ≡ true → refusal (text_words text) ≡ 0 → r ≡ length (records text)
-        → reading (Gives r) (padded (length words) (text_words text)) ≡ read_records w n refusal text words
+        → reading (Ok r) (padded (length words) (text_words text)) ≡ read_records w n refusal text words
     unfolding read_records
     accepts r h e c = rw (le-ltb (length words) (w * n) long, h, e, c)
 
@@ -189,33 +185,27 @@ cleared words out o = o ∙ ap (λ (n : ℕ). replicate n 0) (sub-zero (length w
 
 -- ---- the text reader: the words that the scan left in the slice `scanned`
 
-module _ (text scanned : List ℕ) (s : Scan) (scans : ScanMeans row_width most_records text scanned s)
-    (n : ℕ) (e : s ≡ Read n) where
+module _ (text scanned : List ℕ) (s : Option ℕ) (scans : ScanMeans row_width most_records text scanned s)
+    (n : ℕ) (e : s ≡ Some n) where
   pub found : Found row_width most_records text scanned n
   found = subst (ScanMeans row_width most_records text scanned) e scans
 
-  pub end-within : row_width * n ≤ length scanned
-  end-within = found.room
-
-  pub end_fits : (words : List ℕ) → length scanned ≡ length words → length words * 8 < 2 ^ 63 → Fits w64 (row_width * n)
-  end_fits words kept h = record { fits = omega (arith, end-within) }
-
-  pub front_length : row_width * n ≡ length (take (row_width * n) scanned)
-  front_length = sym (length-take-le (row_width * n) scanned end-within)
+  front_length : row_width * n ≡ length (take (row_width * n) scanned)
+  front_length = sym (length-take-le (row_width * n) scanned found.room)
 
 -- ---- and its ways out, with the slice `out`
 
 module _ (text words : List ℕ) where
-  pub read_short : (m : ℕ) → length words < m → m ≤ most_words → reading (Refused 14) words ≡ read_text text words
+  pub read_short : (m : ℕ) → length words < m → m ≤ most_words → reading (Err reason.Short) words ≡ read_text text words
   unfolding read_text
   read_short m h l = too_short row_width most_records check text words (omega arith)
 
-  module _ (scanned : List ℕ) (long : most_words ≤ length words) (kept : length scanned ≡ length words) (s : Scan)
+  module _ (scanned : List ℕ) (long : most_words ≤ length words) (kept : length scanned ≡ length words) (s : Option ℕ)
       (scans : ScanMeans row_width most_records text scanned s) where
     zeros : (out : List ℕ) → out ≡ zeroed scanned → out ≡ zeroed words
     zeros out e = e ∙ ap (λ (k : ℕ). replicate k 0) kept
 
-    pub read_none : (out : List ℕ) (r : TextRead) → s ≡ NoText → r ≡ Refused 15 → out ≡ zeroed scanned
+    pub read_none : (out : List ℕ) (r : Result ℕ Refusal) → s ≡ None → r ≡ Err reason.Text → out ≡ zeroed scanned
         → reading r out ≡ read_text text words
     unfolding read_text
     read_none out r e is o =
@@ -223,28 +213,29 @@ module _ (text words : List ℕ) where
         ∙ no_text row_width most_records check text words long
         (subst (ScanMeans row_width most_records text scanned) e scans)
 
-    module _ (n : ℕ) (e : s ≡ Read n) (refusal : ℕ) (checked : refusal ≡ check (take (row_width * n) scanned)) where
+    module _ (n : ℕ) (e : s ≡ Some n) where
       there : Found row_width most_records text scanned n
       there = found text scanned s scans n e
 
-      pub read-refused : (out : List ℕ) (r : TextRead) → (refusal ≡ 0 → ⊥) → r ≡ Refused refusal → out ≡ zeroed scanned
+      pub read-refused : (out : List ℕ) (r : Result ℕ Refusal) (reason : Refusal)
+          → number reason ≡ check (take (row_width * n) scanned) → r ≡ Err reason → out ≡ zeroed scanned
           → reading r out ≡ read_text text words
       unfolding read_text
-      read-refused out r z is o =
+      read-refused out r reason checked is o =
           ap₂ reading is (zeros out o)
-          ∙ refuses row_width most_records check text words long refusal there.good
-          (checked ∙ ap check (sym there.words)) z
+          ∙ refuses row_width most_records check text words long reason there.good
+          (checked ∙ ap check (sym there.words))
 
-      pub read-records : (out : List ℕ) → refusal ≡ 0
+      pub read-records : (out : List ℕ) → 0 ≡ check (take (row_width * n) scanned)
           → out ≡ take (row_width * n) scanned ++ replicate (length scanned - row_width * n) 0
-          → reading (Gives n) out ≡ read_text text words
+          → reading (Ok n) out ≡ read_text text words
       unfolding read_text
-      read-records out z o =
+      read-records out checked o =
           let l : length (text_words text) ≡ row_width * n =
           ap length there.words ∙ sym (front_length text scanned s scans n e) in
           let k : length scanned - row_width * n ≡ length words - length (text_words text) = omega arith in
           let q : out ≡ padded (length words) (text_words text) =
           o ∙ ap₂ (λ (xs : List ℕ) (i : ℕ). xs ++ replicate i 0) (sym there.words) k in
-          ap (reading (Gives n)) q
+          ap (reading (Ok n)) q
           ∙ accepts row_width most_records check text words long n there.good
-          (ap check there.words ∙ sym checked ∙ z) there.count
+          (ap check there.words ∙ sym checked) there.count

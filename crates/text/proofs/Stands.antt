@@ -3,6 +3,7 @@
 use mathlib.Core.Path.{◌≡◌, refl, sym, ap, ap₂, subst, ◌∙◌}
 use mathlib.Core.Bool.{true, false}
 use mathlib.Core.List.{List, [], ◌∷◌, ◌++◌, map, map-append, flatten, append_assoc, append-nil}
+use Rattle.std.specs.Prelude.{Option, Some, None}
 use Prim.Native.Nat.{ℕ, ◌+◌, ◌-◌, ◌*◌, ◌/◌, ◌^◌, ◌≤◌, ◌<◌}
 use native.Mathlib.Nat.{mul-le-mul_left, mul-suc}
 use native.Mathlib.Numerals.{add-one}
@@ -28,9 +29,9 @@ use Rattle.text.specs.declared.Field.{Field}
 use Rattle.text.specs.declared.Field.TheVariants.{Empty, Number, Ended}
 use Rattle.text.specs.declared.Place.{Place}
 use Rattle.text.specs.declared.Turn.{Turn}
-use Rattle.text.specs.declared.Turn.TheVariants.{On, Word, Bad}
+use Rattle.text.specs.declared.Turn.TheVariants.{On, Word}
 use Rattle.text.specs.declared.Last.{Last}
-use Rattle.text.specs.declared.Last.TheVariants.{Records, Word as LastWord, Bad as BadEnd}
+use Rattle.text.specs.declared.Last.TheVariants.{Records, Word as LastWord}
 
 -- what was read and belongs to the next bytes: the CR
 abbrev held : Field → List ℕ → List ℕ
@@ -105,11 +106,11 @@ stands-first w limit text some = record {
 }
 
 -- what a byte leads to
-abbrev pub After : ℕ → ℕ → List ℕ → List ℕ → List ℕ → Turn → Type 0
-After w limit text ws t (On q) = Stands w limit text ws q.records q.fields q.field t
-After w limit text ws t (Word v q) =
+abbrev pub After : ℕ → ℕ → List ℕ → List ℕ → List ℕ → Option Turn → Type 0
+After w limit text ws t (Some (On q)) = Stands w limit text ws q.records q.fields q.field t
+After w limit text ws t (Some (Word v q)) =
     (length ws < w * limit) × Stands w limit text (ws ++ (v ∷ [])) q.records q.fields q.field t
-After w limit text ws t Bad = is_text w limit text ≡ false
+After w limit text ws t None = is_text w limit text ≡ false
 
 -- the reader stands at a place that occurs
 pub reach : {w limit : ℕ} {text ws : List ℕ} (q : Place) {t : List ℕ}
@@ -463,10 +464,10 @@ pub record Whole (w limit : ℕ) (text ws : List ℕ) (r : ℕ) : Type 0 where
   pub words : text_words text ≡ ws
   pub size : length ws ≡ w * r
 
-abbrev pub AtEnd : ℕ → ℕ → List ℕ → List ℕ → Last → Type 0
-AtEnd w limit text ws (Records r) = Whole w limit text ws r
-AtEnd w limit text ws (LastWord v r) = (length ws < w * limit) × Whole w limit text (ws ++ (v ∷ [])) r
-AtEnd w limit text ws BadEnd = is_text w limit text ≡ false
+abbrev pub AtEnd : ℕ → ℕ → List ℕ → List ℕ → Option Last → Type 0
+AtEnd w limit text ws (Some (Records r)) = Whole w limit text ws r
+AtEnd w limit text ws (Some (LastWord v r)) = (length ws < w * limit) × Whole w limit text (ws ++ (v ∷ [])) r
+AtEnd w limit text ws None = is_text w limit text ≡ false
 
 module _ {w limit : ℕ} {text ws : List ℕ} {k f : ℕ} where
   empty-all : Stands w limit text ws k f Empty [] → f ≡ 0 → Whole w limit text ws k

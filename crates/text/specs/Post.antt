@@ -1,12 +1,9 @@
 -- What the answers mean.
-use Rattle.std.specs.Prelude.{◌≡◌, true, false, List, ℕ, ◌*◌, ◌≤◌, length, take}
-use Rattle.semantics.specs.Base.{Answer, refused, gives}
+use Rattle.std.specs.Prelude.{◌≡◌, true, false, List, ℕ, ◌*◌, ◌≤◌, length, take, Option, Some, None, Result}
 use Rattle.semantics.specs.Task.{row_width}
 use Rattle.semantics.specs.Text.{most_records, records, is_text, text_words, Reading}
-use Rattle.text.specs.declared.Scan.{Scan}
-use Rattle.text.specs.declared.Scan.TheVariants.{Records, Bad}
-use Rattle.text.specs.declared.TextRead.{TextRead}
-use Rattle.text.specs.declared.TextRead.TheVariants.{Refused, Gives}
+use Rattle.refusal.specs.Number.{answered}
+use Rattle.refusal.specs.declared.Refusal.{Refusal}
 
 -- the words of a task's longest text
 abbrev pub most_words : ℕ
@@ -20,15 +17,10 @@ pub record Found (w n : ℕ) (text out : List ℕ) (r : ℕ) : Type 0 where
   pub words : text_words text ≡ take (w * r) out
 
 -- the text has so many records, and its words stand at the front of the slice; or it is none
-abbrev pub ScanMeans : ℕ → ℕ → List ℕ → List ℕ → Scan → Type 0
-ScanMeans w n text out (Records r) = Found w n text out r
-ScanMeans w n text out Bad = is_text w n text ≡ false
-
--- the paper's value of an answer
-abbrev pub answer_of : TextRead → Answer ℕ
-answer_of (Gives n) = gives n
-answer_of (Refused r) = refused r
+abbrev pub ScanMeans : ℕ → ℕ → List ℕ → List ℕ → Option ℕ → Type 0
+ScanMeans w n text out (Some r) = Found w n text out r
+ScanMeans w n text out None = is_text w n text ≡ false
 
 -- an answer, and the word slice after it
-abbrev pub reading : TextRead → List ℕ → Reading
-reading r words = record { answer = answer_of r; words = words }
+abbrev pub reading : Result ℕ Refusal → List ℕ → Reading
+reading r words = record { answer = answered (λ n. n) r; words = words }

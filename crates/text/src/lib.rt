@@ -3,12 +3,14 @@
 
 #![tactic(auto)]
 
-ghost use Rattle.std.specs.Prelude.{◌≡◌, ◌-◌, ◌*◌, ◌^◌, ◌≤◌, ◌<◌, length};
+ghost use Rattle.std.specs.Prelude.{◌≡◌, ◌-◌, ◌*◌, ◌^◌, ◌≤◌, ◌<◌, length, Err};
 ghost use Rattle.text.specs.Inner.Byte.{ByteMeans};
 ghost use Rattle.text.specs.Inner.Place.{at, InReach, step_of, last_of};
 ghost use Rattle.text.specs.Post.{ScanMeans, reading};
 ghost use Rattle.semantics.specs.Base.{zeroed};
 ghost use Rattle.semantics.specs.Text.{read_text};
+
+use refusal::Refusal;
 
 // Words in a row.
 pub const ROW: usize = 9;
@@ -47,35 +49,20 @@ pub struct Place {
     pub field: Field,
 }
 
-// What a byte leads to: a place; a word that is read, and a place; or the text is none.
+// What a byte of a text leads to: a place; or a word that is read, and a place. An enum is plainer
+// than an Option of the word beside the place, as the readers have an arm for each.
 #[derive(Clone, Copy)]
 pub enum Turn {
     On(Place),
     Word(u64, Place),
-    Bad,
 }
 
-// What the end of the text leads to: the number of records, with or without a word that is read
-// there; or the text is none.
+// What the end of a text leads to: the number of records, with or without a word that is read
+// there; an enum as `Turn` is.
 #[derive(Clone, Copy)]
 pub enum Last {
     Records(usize),
     Word(u64, usize),
-    Bad,
-}
-
-// What the whole text is: the number of its records; or the text is none.
-#[derive(Clone, Copy)]
-pub enum Scan {
-    Records(usize),
-    Bad,
-}
-
-// The answer: the number of records, or a refusal.
-#[derive(Clone, Copy)]
-pub enum TextRead {
-    Gives(usize),
-    Refused(u64),
 }
 
 // The byte reader.
@@ -83,10 +70,7 @@ pub fn sort(b: u8) -> Byte
     ensures { ByteMeans b result }
 {
     match b {
-        b'0'..=b'9' => {
-            let d = (b - b'0') as u64;
-            Byte::Digit(d)
-        }
+        b'0'..=b'9' => Byte::Digit(u64::from(b - b'0')),
         b',' => Byte::Comma,
         b'\r' => Byte::Cr,
         b'\n' => Byte::Lf,
@@ -94,118 +78,63 @@ pub fn sort(b: u8) -> Byte
     }
 }
 
-// The record reader: what the byte b leads to from the place p.
-pub fn step(p: Place, b: Byte, width: usize, most: usize) -> Turn
+// The record reader: what the byte b leads to from the place p; None if no text
+// goes on so.
+pub fn step(p: Place, b: Byte, width: usize, most: usize) -> Option<Turn>
     requires { InReach width most p }
     ensures { result ≡ step_of width most p b }
 {
-    let records = p.records;
-    let fields = p.fields;
-    let field = p.field;
-    match field {
+    match p.field {
         Field::Empty => match b {
-            Byte::Digit(d) => {
-                if records < most {
-                    Turn::On(Place {
-                        records,
-                        fields,
-                        field: Field::Number(d),
-                    })
-                } else {
-                    Turn::Bad
-                }
-            }
-            _ => Turn::Bad,
+            Byte::Digit(d) if p.records < most => Some(Turn::On(Place {
+                field: Field::Number(d),
+                ..p
+            })),
+            _ => None,
         },
         Field::Number(v) => match b {
-            Byte::Digit(d) => {
-                if v == 0 {
-                    return Turn::Bad;
-                }
-                if v <= (LARGEST - d) / 10 {
-                    let value = 10 * v + d;
-                    Turn::On(Place {
-                        records,
-                        fields,
-                        field: Field::Number(value),
-                    })
-                } else {
-                    Turn::Bad
-                }
-            }
-            Byte::Comma => {
-                let next_field = fields + 1;
-                if next_field < width {
-                    Turn::Word(
-                        v,
-                        Place {
-                            records,
-                            fields: next_field,
-                            field: Field::Empty,
-                        },
-                    )
-                } else {
-                    Turn::Bad
-                }
-            }
-            Byte::Cr => {
-                let next_field = fields + 1;
-                if next_field == width {
-                    Turn::Word(
-                        v,
-                        Place {
-                            records,
-                            fields: next_field,
-                            field: Field::Ended,
-                        },
-                    )
-                } else {
-                    Turn::Bad
-                }
-            }
-            Byte::Lf => Turn::Bad,
-            Byte::Other => Turn::Bad,
+            Byte::Digit(d) if v != 0 && v <= (LARGEST - d) / 10 => Some(Turn::On(Place {
+                field: Field::Number(10 * v + d),
+                ..p
+            })),
+            Byte::Comma if p.fields + 1 < width => Some(Turn::Word(
+                v,
+                Place {
+                    fields: p.fields + 1,
+                    field: Field::Empty,
+                    ..p
+                },
+            )),
+            Byte::Cr if p.fields + 1 == width => Some(Turn::Word(
+                v,
+                Place {
+                    fields: p.fields + 1,
+                    field: Field::Ended,
+                    ..p
+                },
+            )),
+            _ => None,
         },
         Field::Ended => match b {
-            Byte::Lf => {
-                let next_record = records + 1;
-                Turn::On(Place {
-                    records: next_record,
-                    fields: 0,
-                    field: Field::Empty,
-                })
-            }
-            _ => Turn::Bad,
+            Byte::Lf => Some(Turn::On(Place {
+                records: p.records + 1,
+                fields: 0,
+                field: Field::Empty,
+            })),
+            _ => None,
         },
     }
 }
 
-// What the end of the text leads to from the place p.
-pub fn at_end(p: Place, width: usize) -> Last
+// What the end of the text leads to from the place p; None if no text ends so.
+pub fn at_end(p: Place, width: usize) -> Option<Last>
     requires { InReach width (2 ^ 64 - 1) p }
     ensures { result ≡ last_of width p }
 {
-    let records = p.records;
-    let fields = p.fields;
-    let field = p.field;
-    match field {
-        Field::Empty => {
-            if fields == 0 {
-                Last::Records(records)
-            } else {
-                Last::Bad
-            }
-        }
-        Field::Number(v) => {
-            let next_field = fields + 1;
-            if next_field == width {
-                let next_record = records + 1;
-                Last::Word(v, next_record)
-            } else {
-                Last::Bad
-            }
-        }
-        Field::Ended => Last::Bad,
+    match p.field {
+        Field::Empty if p.fields == 0 => Some(Last::Records(p.records)),
+        Field::Number(v) if p.fields + 1 == width => Some(Last::Word(v, p.records + 1)),
+        _ => None,
     }
 }
 
@@ -221,19 +150,16 @@ pub fn start() -> Place
 }
 
 // The reader of records: the words of the text go to the front of the slice, which is as long as
-// the most records ask.
-pub fn scan_text(text: &[u8], words: &mut [u64], width: usize, most: usize) -> Scan
+// the most records ask. The answer is the number of records; None if the text is none.
+pub fn scan_text(text: &[u8], words: &mut [u64], width: usize, most: usize) -> Option<usize>
     requires width_nonzero { 0 < width }
     requires most_in_bounds { width * most ≤ length words.old }
     ensures { ScanMeans width most text.now words.new result }
 {
     let mut place = start();
     let mut count = 0;
-    let mut i = 0;
-    while i < text.len() {
-        let next = step(place, sort(text[i]), width, most);
-        i += 1;
-        match next {
+    for b in text {
+        match step(place, sort(*b), width, most)? {
             Turn::On(p) => {
                 place = p;
             }
@@ -242,52 +168,46 @@ pub fn scan_text(text: &[u8], words: &mut [u64], width: usize, most: usize) -> S
                 count += 1;
                 place = p;
             }
-            Turn::Bad => {
-                return Scan::Bad;
-            }
         }
     }
-    let end = at_end(place, width);
-    match end {
-        Last::Records(n) => Scan::Records(n),
+    match at_end(place, width)? {
+        Last::Records(n) => Some(n),
         Last::Word(v, n) => {
             words[count] = v;
-            Scan::Records(n)
+            Some(n)
         }
-        Last::Bad => Scan::Bad,
     }
 }
 
 // A refusal after which the slice is all zeros.
-fn refuse(words: &mut [u64], refusal: u64) -> TextRead
-    ensures { (result ≡ TextRead.Refused refusal)
-        × (words.new ≡ zeroed words.old) }
+fn refuse(words: &mut [u64], refusal: Refusal) -> Result<usize, Refusal>
+    ensures answer { result ≡ Err refusal }
+    ensures zeros { words.new ≡ zeroed words.old }
 {
-    rows::clear(words, 0);
-    TextRead::Refused(refusal)
+    words.fill(0);
+    Err(refusal)
 }
 
 // The text reader: the text's words go to the front of the slice, zeros after them, and the answer
 // is the number of records; or a refusal.
-pub fn read(text: &[u8], words: &mut [u64]) -> TextRead
+pub fn read(text: &[u8], words: &mut [u64]) -> Result<usize, Refusal>
     ensures { reading result words.new
         ≡ read_text text.now words.old }
 {
     if words.len() < MOST_WORDS {
-        return TextRead::Refused(14);
+        return Err(Refusal::Short);
     }
-    let scan = scan_text(text, words, ROW, MOST_RECORDS);
-    match scan {
-        Scan::Records(n) => {
+    match scan_text(text, words, ROW, MOST_RECORDS) {
+        Some(n) => {
             let end = ROW * n;
-            let refusal = task::check(&words[..end]);
-            if refusal == 0 {
-                rows::clear(words, end);
-                TextRead::Gives(n)
-            } else {
-                refuse(words, refusal)
+            match task::check(&words[..end]) {
+                Ok(_) => {
+                    rows::fill_from(words, end, 0);
+                    Ok(n)
+                }
+                Err(e) => refuse(words, e),
             }
         }
-        Scan::Bad => refuse(words, 15),
+        None => refuse(words, Refusal::Text),
     }
 }

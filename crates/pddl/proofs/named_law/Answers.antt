@@ -1,51 +1,30 @@
 -- `pddl::named_law` meets its contract.
-use mathlib.Core.Path.{refl}
-use borrow.Author.Rules.{rules}
-use Rattle.pddl.proofs.Stages.{naming, Within, within-limits, law-misnamed, law-beyond, law-built}
+use Rattle.pddl.proofs.Stages.{law-misnamed, law-unwaited, law-beyond, law-unbuilt, law-built}
+use Rattle.std.proofs.lemmas.Result.{err_from_is_err_and}
 use Rattle.pddl.proofs.named_law.Goals as goal
 
-pub names_hold-own-requires : goal.names_hold-own-requires
-names_hold-own-requires c =
-    record {
-      naming = naming _ c.requires.begun _ _ refl refl _ c.count-facts.ensures _ c.facts_from-start.ensures;
-      row_width_in_bounds = (search rules, search rules);
-      row_width_in_bounds_2 = search rules;
-    }
+pub returns-in_default : goal.returns-in_default
+returns-in_default c =
+    law-misnamed c.requires.begun _ c.count-facts.ensures _ c.facts_from-start.ensures c.in_default.ensures _ _
 
-pub build-refusal-requires : goal.build-refusal-requires
-build-refusal-requires c =
-    let l : Within c.count-facts.result c.args.members c.names_hold-own.result.count =
-    within-limits c.count-facts.result c.args.members c.names_hold-own.result.count c.if-facts-members.true in
-    record {
-      members_bound = (l.members-few, l.actions-few, l.facts-few);
-      row_width_in_bounds = (search rules, search rules, c.requires.masks_value.1);
-    }
+pub returns-then-not-within : goal.returns-then-not-within
+returns-then-not-within c =
+    law-unwaited c.requires.begun _ c.count-facts.ensures _ c.facts_from-start.ensures _ c.in-Some.ensures
+    c.requires.masks_value.0 _ _ c.within.ensures _ c.if-not-within.true
 
-pub overflow_add-result : goal.overflow_add-result
-overflow_add-result c =
-    let l : Within c.count-facts.result c.args.members c.names_hold-own.result.count =
-    within-limits c.count-facts.result c.args.members c.names_hold-own.result.count c.if-facts-members.true in
-    l.members-fit
+pub returns-then-not-few : goal.returns-then-not-few
+returns-then-not-few c =
+    law-beyond c.requires.begun _ c.count-facts.ensures _ c.facts_from-start.ensures _ c.in-Some.ensures
+    c.requires.masks_value.0 _ _ c.within.ensures c.if-not-within.false _ c.if-not-few.true
 
-pub overflow_add-result-then-facts-members : goal.overflow_add-result-then-facts-members
-overflow_add-result-then-facts-members c =
-    let l : Within c.count-facts.result c.args.members c.names_hold-own.result.count =
-    within-limits c.count-facts.result c.args.members c.names_hold-own.result.count c.if-facts-members.true in
-    l.records-fit
+pub returns-in_err-build : goal.returns-in_err-build
+returns-in_err-build c =
+    let p = err_from_is_err_and c.from_residual.result c.from_residual.ensures.1 in
+    rw (p.1, p.2) (law-unbuilt c.requires.begun _ c.count-facts.ensures _ c.facts_from-start.ensures _
+    c.in-Some.ensures c.requires.masks_value.0 _ _ c.within.ensures c.if-not-within.false c.if-not-few.false
+    c.in_err-build.ensures)
 
-pub returns-then-facts-members : goal.returns-then-facts-members
-returns-then-facts-members c =
-    law-built _ c.requires.begun _ _ refl refl _ c.count-facts.ensures _ c.facts_from-start.ensures _
-    c.names_hold-own.ensures c.requires.masks_value.0 _ _ refl _ c.within.ensures _ c.if-own-within.true
-    c.if-facts-members.true _ c.build-refusal.ensures
-
-pub returns-else-facts-members : goal.returns-else-facts-members
-returns-else-facts-members c =
-    law-beyond _ c.requires.begun _ _ refl refl _ c.count-facts.ensures _ c.facts_from-start.ensures _
-    c.names_hold-own.ensures c.requires.masks_value.0 _ _ refl _ c.within.ensures _ c.if-own-within.true
-    c.if-facts-members.false
-
-pub returns-else-own-within : goal.returns-else-own-within
-returns-else-own-within c =
-    law-misnamed _ c.requires.begun _ _ refl refl _ c.count-facts.ensures _ c.facts_from-start.ensures _
-    c.names_hold-own.ensures c.requires.masks_value.0 _ _ refl _ c.within.ensures _ c.if-own-within.false
+pub returns : goal.returns
+returns c =
+    law-built c.requires.begun _ c.count-facts.ensures _ c.facts_from-start.ensures _ c.in-Some.ensures
+    c.requires.masks_value.0 _ _ c.within.ensures c.if-not-within.false c.if-not-few.false c.in_ok-build.ensures

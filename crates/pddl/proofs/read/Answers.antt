@@ -1,17 +1,12 @@
 -- `pddl::read` meets its contract.
-use mathlib.Core.Path.{refl}
-use borrow.Author.Rules.{rules}
 use Rattle.pddl.proofs.Whole.{read_short, read_whole, read-refused}
 use Rattle.pddl.proofs.read.Goals as goal
 
 pub returns-then-words-end : goal.returns-then-words-end
-returns-then-words-end c = search (rules, read_short)
+returns-then-words-end c = read_short _ _ c.in-Ok.ensures c.if-words-end.true
 
 pub returns-else-words-end : goal.returns-else-words-end
-returns-else-words-end c =
-    read_whole c.args.words.now c.law_in-l.result c.law_in-l.ensures _ refl c.if-refusal-eq0.true _ refl
-    c.if-words-end.false _ _
-    c.store.ensures c.clear.ensures
+returns-else-words-end c = read_whole _ _ c.in-Ok.ensures c.if-words-end.false _ _ c.store.ensures c.fill_from.ensures
 
-pub returns-else-refusal-eq0 : goal.returns-else-refusal-eq0
-returns-else-refusal-eq0 c = search (rules, read-refused)
+pub returns-in-Err : goal.returns-in-Err
+returns-in-Err c = read-refused _ c.in-Err.e c.in-Err.ensures _ c.fill_from-in-Err.ensures

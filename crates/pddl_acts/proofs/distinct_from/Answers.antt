@@ -1,22 +1,12 @@
 -- `pddl_acts::distinct_from` meets its contract.
-use borrow.Author.Rules.{rules}
-use native.Mathlib.Omega.{arith}
-use Rattle.pddl_section.proofs.Lists.{action-onward}
-use Rattle.pddl_theory.proofs.Turns.{asked-begin}
 use Rattle.pddl_acts.proofs.Named.{distinct-not, distinct-on, distinct-end}
 use Rattle.pddl_acts.proofs.distinct_from.Goals as goal
 
-pub loop-n-init : goal.loop-n-init
-loop-n-init c = search asked-begin
-
 pub returns-then-called : goal.returns-then-called
-returns-then-called c = search (rules, distinct-not)
+returns-then-called c = distinct-not c.loop-a.invariant c.in-Some.ensures _ c.called.ensures c.if-called.true
 
-pub loop-n-smaller : goal.loop-n-smaller
-loop-n-smaller c = omega (arith, action-onward c.plain_action_at-a.ensures _ c.in-At.is)
+pub loop-a-preserved : goal.loop-a-preserved
+loop-a-preserved c = distinct-on c.loop-a.invariant c.in-Some.ensures _ c.called.ensures c.if-called.false
 
-pub loop-n-preserved : goal.loop-n-preserved
-loop-n-preserved c = search (rules, distinct-on)
-
-pub returns-in-Outside : goal.returns-in-Outside
-returns-in-Outside c = search (rules, distinct-end)
+pub returns : goal.returns
+returns c = distinct-end c.loop-a.invariant c.in_default.ensures

@@ -5,8 +5,8 @@ use Rattle.pddl_acts.specs.Inner.Names.{called_from}
 use Rattle.pddl_theory.proofs.Turns.{Asked}
 use Rattle.pddl_acts.proofs.distinct_from.Given as goal
 
-abbrev pub invariant-loop-n : goal.invariant-loop-n
-invariant-loop-n l = Asked none_twice (called_from l.text) l.at l.i
+abbrev pub invariant-loop-a : goal.invariant-loop-a
+invariant-loop-a l = Asked none_twice (called_from l.text) l.at l.i
 
-abbrev pub decreases-loop-n : goal.decreases-loop-n
-decreases-loop-n l = length l.text - l.i
+abbrev pub decreases-loop-a : goal.decreases-loop-a
+decreases-loop-a l = length l.text - l.i

@@ -1,57 +1,23 @@
 -- What stands at a place of a text.
-use Rattle.std.specs.Prelude.{◌≡◌, Bool, true, false, List, [], ◌∷◌, ℕ, ◌≤◌, ◌<◌, length}
+use Rattle.std.specs.Prelude.{◌≡◌, Bool, true, false, List, [], ◌∷◌, ℕ, ◌≤◌, ◌<◌, length, Option, Some, None, unwrap_or}
 use Rattle.semantics.specs.Pddl as Pddl
-use Rattle.semantics.specs.Pddl.{opening, closing, tokens, Parsed, outside, parsed, ◌then◌, many}
+use Rattle.semantics.specs.Pddl.{opening, closing, tokens, Parsed, outside, parsed, many}
 use Rattle.pddl_theory.specs.Inner.Place.{rest, span, leaves, items}
 use Rattle.pddl_token.specs.declared.Token.{Token}
 use Rattle.pddl_token.specs.declared.Token.TheVariants as T
-use Rattle.pddl_form.specs.declared.Place.{Place}
-use Rattle.pddl_form.specs.declared.Place.TheVariants.{At, Outside}
 use Rattle.pddl_form.specs.declared.Word.{Word}
 
 -- ---- tokens and places
 
-abbrev pub offset_of : Place → ℕ
-offset_of (At n) = n
-offset_of Outside = 0
+abbrev pub offset_of : Option ℕ → ℕ
+offset_of p = unwrap_or p 0
 
-abbrev pub opened_of : Token → Place
-opened_of (T.Open n) = At n
-opened_of (T.Close n) = Outside
-opened_of (T.Word s e) = Outside
-opened_of T.End = Outside
-opened_of T.Stray = Outside
-
-abbrev pub closed_of : Token → Place
-closed_of (T.Open n) = Outside
-closed_of (T.Close n) = At n
-closed_of (T.Word s e) = Outside
-closed_of T.End = Outside
-closed_of T.Stray = Outside
-
-abbrev pub no_word : Word
-no_word = record { first = 0; end = 0; place = Outside }
-
-abbrev pub worded_of : Token → Word
-worded_of (T.Open n) = no_word
-worded_of (T.Close n) = no_word
-worded_of (T.Word s e) = record { first = s; end = e; place = At e }
-worded_of T.End = no_word
-worded_of T.Stray = no_word
-
-abbrev pub behind_of : Token → Place
-behind_of (T.Open n) = At n
-behind_of (T.Close n) = At n
-behind_of (T.Word s e) = At e
-behind_of T.End = Outside
-behind_of T.Stray = Outside
-
-abbrev pub is_end : Token → Bool
-is_end (T.Open n) = false
-is_end (T.Close n) = false
-is_end (T.Word s e) = false
-is_end T.End = true
-is_end T.Stray = false
+abbrev pub behind_of : Token → Option ℕ
+behind_of (T.Open n) = Some n
+behind_of (T.Close n) = Some n
+behind_of (T.Word s e) = Some e
+behind_of T.End = None
+behind_of T.Stray = None
 
 -- a token of a text agrees with one of a pattern
 abbrev pub agreed : List ℕ → Token → List ℕ → Token → Bool
@@ -75,54 +41,55 @@ agreed text t pattern T.Stray = false
 
 -- ---- what is read from a place on
 
--- the tokens behind a place
-abbrev pub left : List ℕ → Place → Parsed (Unit {0})
-left text (At n) = parsed tt (rest text n)
-left text Outside = outside
+-- the tokens behind a place; none is outside the subset
+abbrev pub left : List ℕ → Option ℕ → Parsed (Unit {0})
+left text None = outside
+left text (Some n) = parsed tt (rest text n)
 
 -- the word that was read, and the tokens behind it
-abbrev pub word_of : List ℕ → Word → Parsed (List ℕ)
-word_of text w = left text w.place then λ _ ts. parsed (span text w.first w.end) ts
+abbrev pub word_of : List ℕ → Option Word → Parsed (List ℕ)
+word_of text None = outside
+word_of text (Some w) = parsed (span text w.first w.end) (rest text w.next)
 
 -- the atoms from an offset on
 abbrev pub atoms_from : List ℕ → ℕ → List (List ℕ)
 atoms_from text at = items (many Pddl.atom (rest text at))
 
--- a place behind another, within the text
-abbrev pub Behind : ℕ → Place → Place → Type 0
-Behind most p Outside = Unit {0}
-Behind most Outside (At n) = ⊥
-Behind most (At a) (At n) = (a < n) × (n ≤ most)
+-- a place behind an offset, within the text
+abbrev pub Behind : ℕ → ℕ → Option ℕ → Type 0
+Behind most at None = Unit {0}
+Behind most at (Some n) = (at < n) × (n ≤ most)
 
--- at or behind
-abbrev pub NotBefore : ℕ → Place → Place → Type 0
-NotBefore most p Outside = Unit {0}
-NotBefore most Outside (At n) = ⊥
-NotBefore most (At a) (At n) = a ≤ n
+-- at an offset or behind it
+abbrev pub NotBefore : ℕ → Option ℕ → Type 0
+NotBefore at None = Unit {0}
+NotBefore at (Some n) = at ≤ n
 
-pub record Opens (text : List ℕ) (p r : Place) : Type 0 where
-  pub same : left text r ≡ (left text p then λ _ ts. Pddl.expect (opening ∷ []) ts)
-  pub onward : Behind (length text) p r
+-- the word lies in the text, and what follows it behind the offset
+abbrev pub WordBehind : ℕ → ℕ → Option Word → Type 0
+WordBehind most at None = Unit {0}
+WordBehind most at (Some w) = (at < w.next) × (w.next ≤ most) × (w.end ≤ most)
 
-pub record Closes (text : List ℕ) (p r : Place) : Type 0 where
-  pub same : left text r ≡ (left text p then λ _ ts. Pddl.expect (closing ∷ []) ts)
-  pub onward : Behind (length text) p r
+pub record Opens (text : List ℕ) (at : ℕ) (r : Option ℕ) : Type 0 where
+  pub same : left text r ≡ Pddl.expect (opening ∷ []) (rest text at)
+  pub onward : Behind (length text) at r
 
-pub record Expects (text : List ℕ) (p : Place) (pattern : List ℕ) (r : Place) : Type 0 where
-  pub same : left text r ≡ (left text p then λ _ ts. Pddl.expect (tokens pattern) ts)
-  pub onward : NotBefore (length text) p r
+pub record Closes (text : List ℕ) (at : ℕ) (r : Option ℕ) : Type 0 where
+  pub same : left text r ≡ Pddl.expect (closing ∷ []) (rest text at)
+  pub onward : Behind (length text) at r
 
--- the word lies in the text
-pub record Names (text : List ℕ) (p : Place) (r : Word) : Type 0 where
-  pub same : word_of text r ≡ (left text p then λ _ ts. Pddl.name ts)
-  pub onward : Behind (length text) p r.place
-  pub within : r.end ≤ length text
+pub record Expects (text : List ℕ) (at : ℕ) (pattern : List ℕ) (r : Option ℕ) : Type 0 where
+  pub same : left text r ≡ Pddl.expect (tokens pattern) (rest text at)
+  pub onward : NotBefore at r
 
-pub record Atoms (text : List ℕ) (p : Place) (r : Word) : Type 0 where
-  pub same : word_of text r ≡ (left text p then λ _ ts. Pddl.atom ts)
-  pub onward : Behind (length text) p r.place
-  pub within : r.end ≤ length text
+pub record Names (text : List ℕ) (at : ℕ) (r : Option Word) : Type 0 where
+  pub same : word_of text r ≡ Pddl.name (rest text at)
+  pub onward : WordBehind (length text) at r
 
-pub record AtomsEnd (text : List ℕ) (p r : Place) : Type 0 where
-  pub same : left text r ≡ (left text p then λ _ ts. leaves (many Pddl.atom ts))
-  pub onward : NotBefore (length text) p r
+pub record Atoms (text : List ℕ) (at : ℕ) (r : Option Word) : Type 0 where
+  pub same : word_of text r ≡ Pddl.atom (rest text at)
+  pub onward : WordBehind (length text) at r
+
+pub record AtomsEnd (text : List ℕ) (at r : ℕ) : Type 0 where
+  pub same : parsed tt (rest text r) ≡ leaves (many Pddl.atom (rest text at))
+  pub onward : at ≤ r

@@ -9,7 +9,8 @@ abbrev pub decreases-formulas : goal.decreases-formulas
 decreases-formulas l = 2 * l.allowed + 1
 
 abbrev pub invariant-formulas-loop-n : goal.invariant-formulas-loop-n
-invariant-formulas-loop-n l = Listing l.text l.spans l.more l.negations l.allowed l.at l.adds l.dels l.known l.i
+invariant-formulas-loop-n l =
+    Listing l.names.text.now l.names.spans.now l.names.more l.negations l.allowed l.at l.adds l.dels l.known l.i
 
 abbrev pub decreases-formulas-loop-n : goal.decreases-formulas-loop-n
-decreases-formulas-loop-n l = length l.text - l.i
+decreases-formulas-loop-n l = length l.names.text.now - l.i

@@ -1,13 +1,9 @@
 -- `pddl_formula::fact_of` meets its contract.
-use borrow.Author.Rules.{rules}
-use Rattle.pddl_formula.proofs.Parts.{fact-few, fact-here, fact-absent}
+use Rattle.pddl_formula.proofs.Parts.{fact-here, fact-absent}
 use Rattle.pddl_formula.proofs.fact_of.Goals as goal
 
-pub fact-requires : goal.fact-requires
-fact-requires c = search (rules, fact-few)
+pub returns-in-Some : goal.returns-in-Some
+returns-in-Some c = fact-here _ _ _ _ c.in-Some.k c.in-Some.ensures _ _ c.fact.ensures
 
-pub returns-in-At : goal.returns-in-At
-returns-in-At c = search (rules, fact-here)
-
-pub returns-in-Absent : goal.returns-in-Absent
-returns-in-Absent c = search (rules, fact-absent)
+pub returns-in-None : goal.returns-in-None
+returns-in-None c = fact-absent _ _ _ _ c.in-None.ensures _ _ c.none.ensures _ c.stands.ensures

@@ -1,10 +1,10 @@
 -- `pddl_formula::formula_at` meets its contract.
 use borrow.Author.Rules.{rules}
-use Rattle.pddl_formula.proofs.Lists.{goes_at, goes-out}
+use Rattle.pddl_formula.proofs.Lists.{goes-out, goes_at}
 use Rattle.pddl_formula.proofs.formula_at.Goals as goal
 
-pub returns-in-At : goal.returns-in-At
-returns-in-At c = search (rules, goes_at)
+pub returns-in_err-inside : goal.returns-in_err-inside
+returns-in_err-inside c = rw c.from_residual.ensures (goes-out c.in_err-inside.ensures)
 
-pub returns-in-Outside : goal.returns-in-Outside
-returns-in-Outside c = search (rules, goes-out)
+pub returns : goal.returns
+returns c = search (rules, goes_at)

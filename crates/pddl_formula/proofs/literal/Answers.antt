@@ -1,13 +1,16 @@
 -- `pddl_formula::literal` meets its contract.
 use borrow.Author.Rules.{rules}
-use Rattle.pddl_formula.proofs.Parts.{no_name, atom_in, atom-out}
+use Rattle.pddl_formula.proofs.Parts.{no_name, not-closed, atom_in}
 use Rattle.pddl_formula.proofs.literal.Goals as goal
 
-pub returns-in-At : goal.returns-in-At
-returns-in-At c = search (rules, atom_in)
+pub returns-then-not-is_name : goal.returns-then-not-is_name
+returns-then-not-is_name c = search (rules, no_name)
 
-pub returns-in-Outside : goal.returns-in-Outside
-returns-in-Outside c = search (rules, atom-out)
+pub returns-in_err-next : goal.returns-in_err-next
+returns-in_err-next c =
+    rw c.from_residual.ensures (not-closed _ _ _ _ _ _ c.is_name.ensures c.if-not-is_name.false c.in_err-next.ensures)
 
-pub returns-else-is_name : goal.returns-else-is_name
-returns-else-is_name c = search (rules, no_name)
+pub returns : goal.returns
+returns c =
+    atom_in _ _ _ _ _ _ c.is_name.ensures c.if-not-is_name.false _ c.in_ok-next.ensures _ c.fact_of-fact.ensures _
+    c.none.ensures

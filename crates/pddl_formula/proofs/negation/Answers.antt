@@ -1,10 +1,7 @@
 -- `pddl_formula::negation` meets its contract.
-use borrow.Author.Rules.{rules}
-use Rattle.pddl_formula.proofs.Parts.{negation_in, negation-out}
+use Rattle.pddl_formula.proofs.Parts.{negation_in}
 use Rattle.pddl_formula.proofs.negation.Goals as goal
 
-pub returns-in-At : goal.returns-in-At
-returns-in-At c = search (rules, negation_in)
-
-pub returns-in-Outside : goal.returns-in-Outside
-returns-in-Outside c = search (rules, negation-out)
+pub returns : goal.returns
+returns c =
+    negation_in _ _ _ _ _ c.in_ok-a.ensures _ c.in_ok-next.ensures _ c.fact_of-fact.ensures _ c.none.ensures

@@ -1,4 +1,3 @@
-use Prim.Native.Nat.{◌-◌}
 use Rattle.pddl_theory.specs.Inner.Limits.{most_facts}
 use Rattle.pddl_form.specs.Inner.Place.{atoms_from}
 use Rattle.pddl_list.proofs.Filling.{Filling}
@@ -6,6 +5,3 @@ use Rattle.pddl_list.proofs.fill.Given as goal
 
 abbrev pub invariant-loop-n : goal.invariant-loop-n
 invariant-loop-n l = Filling most_facts (atoms_from l.text) l.text l.at l.initial.spans l.spans l.n l.i
-
-abbrev pub decreases-loop-n : goal.decreases-loop-n
-decreases-loop-n l = most_facts - l.n

@@ -1,34 +1,25 @@
 -- `pddl_members::count` meets its contract.
 use borrow.Author.Rules.{rules}
+use Rattle.pddl_members.proofs.Counting.{counting-begin, counting-on, ended, more}
 use native.Mathlib.Omega.{arith}
 use Rattle.pddl_section.proofs.Lists.{member-onward}
-use Rattle.pddl_members.proofs.Counting.{counting-begin, counting-on}
-use Rattle.pddl_members.proofs.Counting.{ended, more_open, more_close, more-word, more-stray}
 use Rattle.pddl_members.proofs.count.Goals as goal
 
-pub loop-next-init : goal.loop-next-init
-loop-next-init c = search counting-begin
+pub loop-m-init : goal.loop-m-init
+loop-m-init c = search (rules, counting-begin)
 
 pub overflow_add-n : goal.overflow_add-n
-overflow_add-n c = omega (arith, member-onward c.member_at-m.ensures _ c.in-At.is)
+overflow_add-n c = record { fits = omega (arith, member-onward c.in-Some.ensures) }
 
-pub loop-next-smaller : goal.loop-next-smaller
-loop-next-smaller c = omega (arith, member-onward c.member_at-m.ensures _ c.in-At.is)
+pub loop-m-smaller : goal.loop-m-smaller
+loop-m-smaller c = omega (arith, member-onward c.in-Some.ensures)
 
-pub loop-next-preserved : goal.loop-next-preserved
-loop-next-preserved c = search (rules, counting-on)
+pub loop-m-preserved : goal.loop-m-preserved
+loop-m-preserved c = counting-on c.loop-m.invariant c.in-Some.ensures _ _ c.keep-kept.ensures
 
 pub returns-in-End : goal.returns-in-End
-returns-in-End c = search (rules, ended)
+returns-in-End c = ended c.loop-m.invariant c.in_default.ensures c.in-End.ensures
 
-pub returns-in-Open : goal.returns-in-Open
-returns-in-Open c = search (rules, more_open)
-
-pub returns-in-Close : goal.returns-in-Close
-returns-in-Close c = search (rules, more_close)
-
-pub returns-in-Word : goal.returns-in-Word
-returns-in-Word c = search (rules, more-word)
-
-pub returns-in-Stray : goal.returns-in-Stray
-returns-in-Stray c = search (rules, more-stray)
+pub returns-in_default-next_token : goal.returns-in_default-next_token
+returns-in_default-next_token c =
+    more c.loop-m.invariant c.in_default.ensures _ c.next_token.ensures c.in_default-next_token.not-End

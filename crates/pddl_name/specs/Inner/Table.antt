@@ -1,19 +1,17 @@
--- The words that a table of offsets gives, and what a look into it says.
-use Rattle.std.specs.Prelude.{◌≡◌, true, false, List, [], ◌∷◌, ℕ, ◌^◌, ◌≤◌, ◌<◌, length, get_or}
+-- The words that a table of parts gives, and what a look into it says.
+use Rattle.std.specs.Prelude.{◌≡◌, true, false, List, map, ℕ, ◌^◌, ◌≤◌, ◌<◌, length, Option, Some, None}
+use Rattle.std.specs.List.{All}
 use Rattle.semantics.specs.Pddl.{is_in, bit_from}
 use Rattle.pddl_theory.specs.Inner.Place.{span}
-use Rattle.pddl_name.specs.declared.Found.{Found}
-use Rattle.pddl_name.specs.declared.Found.TheVariants.{At, Absent}
+use Rattle.pddl_name.specs.declared.Span.{Span}
 
--- the words of a table: each a first offset and the one behind the last byte
-unfoldable pub names_in : List ℕ → List ℕ → List (List ℕ)
-names_in text [] = []
-names_in text (s ∷ []) = []
-names_in text (s ∷ e ∷ spans) = span text s e ∷ names_in text spans
+-- the words of a table
+abbrev pub names_in : List ℕ → List Span → List (List ℕ)
+names_in text spans = map (λ p. span text p.first p.end) spans
 
--- every offset of a table lies in the text
-pub record Spans (most : ℕ) (spans : List ℕ) : Type 0 where
-  pub below : (k : ℕ) → k < length spans → get_or spans k 0 ≤ most
+-- every part of a table lies in the text
+pub record Spans (most : ℕ) (spans : List Span) : Type 0 where
+  pub below : All (λ p. p.end ≤ most) spans
 
 -- the word's bit, and whether it is there
 pub record Here (names : List (List ℕ)) (w : List ℕ) (k : ℕ) : Type 0 where
@@ -25,6 +23,6 @@ pub record NotHere (names : List (List ℕ)) (w : List ℕ) : Type 0 where
   pub no-bit : bit_from 1 names w ≡ 0
   pub not_there : is_in names w ≡ false
 
-abbrev pub Looked : List (List ℕ) → List ℕ → Found → Type 0
-Looked names w (At k) = Here names w k
-Looked names w Absent = NotHere names w
+abbrev pub Looked : List (List ℕ) → List ℕ → Option ℕ → Type 0
+Looked names w (Some k) = Here names w k
+Looked names w None = NotHere names w

@@ -1,16 +1,11 @@
 -- `pddl_named::same_facts` meets its contract.
-use borrow.Author.Rules.{rules}
-use Rattle.pddl_named.proofs.Agreeing.{facts-first, facts_unknown, facts-by-mask, facts-by-name}
+use Rattle.pddl_named.proofs.Agreeing.{facts-first, facts-by-mask}
 use Rattle.pddl_named.proofs.same_facts.Goals as goal
 
 pub returns-then-at-c : goal.returns-then-at-c
-returns-then-at-c c = search (rules, facts-first)
+returns-then-at-c c = facts-first c.args.shared.now.holds _ c.if-at-c.true
 
 pub returns-then-c-le-MOST_FACTS : goal.returns-then-c-le-MOST_FACTS
-returns-then-c-le-MOST_FACTS c = search (rules, facts-by-mask)
-
-pub returns-else-c-le-MOST_FACTS : goal.returns-else-c-le-MOST_FACTS
-returns-else-c-le-MOST_FACTS c = search (rules, facts-by-name)
-
-pub returns-else-f : goal.returns-else-f
-returns-else-f c = search (rules, facts_unknown)
+returns-then-c-le-MOST_FACTS c =
+    facts-by-mask c.args.shared.now.holds _ _ c.facts_from-f.ensures c.if-not-f.false c.if-c-le-MOST_FACTS.true _
+    c.eq.ensures

@@ -9,8 +9,8 @@ loop-i-init c = search word-begin
 pub loop-i-preserved : goal.loop-i-preserved
 loop-i-preserved c = search (rules, word-onward)
 
-pub returns-else-in_word : goal.returns-else-in_word
-returns-else-in_word c = search (rules, word_out)
+pub returns-then-not-in_word : goal.returns-then-not-in_word
+returns-then-not-in_word c = search (rules, word_out)
 
 pub returns : goal.returns
 returns c = search (rules, word_end)

@@ -1,18 +1,13 @@
 -- `pddl_waits::read` meets its contract. Assumes nothing.
-use Rattle.pddl_waits.proofs.Pass.{begin, less, onward, end, out}
+use Rattle.pddl_waits.proofs.Pass.{begin, onward, end}
 use Rattle.pddl_waits.proofs.read.Goals as goal
 
-pub loop-a-init : goal.loop-a-init
-loop-a-init c = search begin
+pub loop-w-init : goal.loop-w-init
+loop-w-init c = search begin
 
-pub loop-a-smaller : goal.loop-a-smaller
-loop-a-smaller c = search less
+pub loop-w-preserved : goal.loop-w-preserved
+loop-w-preserved c =
+    onward c.loop-w.invariant _ _ _ (rw c.in-Some.is at c.in_ok-w.ensures) _ c.add.ensures _ c.grown.ensures
 
-pub loop-a-preserved : goal.loop-a-preserved
-loop-a-preserved c = search onward
-
-pub returns-in-End : goal.returns-in-End
-returns-in-End c = search end
-
-pub returns-in-Bad : goal.returns-in-Bad
-returns-in-Bad c = search out
+pub returns : goal.returns
+returns c = end c.loop-w.invariant (rw c.in_default.is at c.in_ok-w.ensures)

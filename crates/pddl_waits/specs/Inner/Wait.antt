@@ -1,9 +1,11 @@
 -- What stands in a waits text at an offset where a record begins.
-use Rattle.std.specs.Prelude.{◌≡◌, Bool, true, false, List, [], ◌∷◌, ℕ, ◌≤◌, ◌<◌, length, drop}
+use Rattle.std.specs.Prelude.{◌≡◌, Bool, true, false, List, [], ◌∷◌, ℕ, ◌≤◌, ◌<◌, length, drop, Option, Some, None}
+use Rattle.std.specs.Prelude.{Result, Ok, Err}
 use Rattle.semantics.specs.Base.{all_of}
 use Rattle.semantics.specs.Text.{records, is_record, text_words}
 use Rattle.pddl_waits.specs.declared.Wait.{Wait}
-use Rattle.pddl_waits.specs.declared.Wait.TheVariants.{For, End, Bad}
+use Rattle.refusal.specs.declared.Refusal.{Refusal}
+use Rattle.refusal.specs.declared.Refusal.TheVariants as refusal
 
 -- each record of the text has two fields
 abbrev pub in_pairs : List ℕ → Bool
@@ -16,7 +18,8 @@ pub record Next (waits : List ℕ) (i a f j : ℕ) : Type 0 where
   pub pairs : in_pairs (drop i waits) ≡ in_pairs (drop j waits)
   pub words : text_words (drop i waits) ≡ a ∷ f ∷ text_words (drop j waits)
 
-abbrev pub WaitMeans : List ℕ → ℕ → Wait → Type 0
-WaitMeans waits i (For a f j) = Next waits i a f j
-WaitMeans waits i End = (in_pairs (drop i waits) ≡ true) × (text_words (drop i waits) ≡ [])
-WaitMeans waits i Bad = in_pairs (drop i waits) ≡ false
+-- a record, the text's end, or neither
+abbrev pub WaitMeans : List ℕ → ℕ → Result (Option Wait) Refusal → Type 0
+WaitMeans waits i (Ok (Some w)) = Next waits i w.action w.fact w.next
+WaitMeans waits i (Ok None) = (in_pairs (drop i waits) ≡ true) × (text_words (drop i waits) ≡ [])
+WaitMeans waits i (Err e) = (e ≡ refusal.Text) × (in_pairs (drop i waits) ≡ false)

@@ -1,29 +1,19 @@
 -- `pddl_write::count` meets its contract. Assumes nothing.
-use Prim.Native.Nat.{◌<◌}
 use native.Mathlib.Omega.{arith}
 use Rattle.semantics.specs.PddlWrite.{own}
-use Rattle.semantics.specs.Task.{actions}
 use Rattle.pddl_write.proofs.Laws.{counted-begin, counted-onward, counted-end}
 use Rattle.pddl_write.proofs.count.Goals as goal
 
 pub loop-a-init : goal.loop-a-init
 loop-a-init c = counted-begin
 
-pub owned-n-requires : goal.owned-n-requires
-owned-n-requires c =
-    let l : c.loop-a.a < actions c.args.t.now = omega (arith, c.actions-m.ensures) in
-    record {
-      t_value = c.requires;
-      a_bound = l;
-    }
-
 pub overflow_add-n : goal.overflow_add-n
 overflow_add-n c = omega (arith, c.loop-a.invariant.few, c.owned-n.ensures.upper_bound)
 
 pub loop-a-preserved : goal.loop-a-preserved
 loop-a-preserved c =
-    counted-onward c.loop-a.invariant (omega (arith, c.actions-m.ensures)) c.owned-n.result c.owned-n.ensures.value
+    counted-onward c.loop-a.invariant (omega (arith, c.actions-a-end.ensures)) c.owned-n.result c.owned-n.ensures.value
 
 pub returns : goal.returns
 unfolding own
-returns c = counted-end c.loop-a.invariant (omega (arith, c.actions-m.ensures))
+returns c = counted-end c.loop-a.invariant (omega (arith, c.actions-a-end.ensures))

@@ -8,5 +8,5 @@ pub returns : goal.returns
 unfolding spelt numbers_from action_text
 returns c =
     put_then c.put_told-pre.ensures
-    (put_then (put-mask _ _ _ _ _ c.put_atoms-effects.ensures c.facts.ensures.value c.pre.ensures)
+    (put_then (put-mask _ _ _ _ c.put_facts-effects.ensures c.pre.ensures)
     c.put_effects.ensures)

@@ -8,6 +8,5 @@ pub returns : goal.returns
 unfolding spelt numbers_from effects_text
 returns c =
     put_then c.put-adds.ensures
-    (put_then (put-mask _ _ _ _ _ c.put_atoms-dels.ensures c.facts-below.ensures.value c.made.ensures)
-    (put_then (put-mask _ _ _ _ _ c.put_negations-end.ensures c.facts-below.ensures.value c.del.ensures)
-    c.put.ensures))
+    (put_then (put-mask _ _ _ _ c.put_facts-dels.ensures c.add.ensures)
+    (put_then (put-mask _ _ _ _ c.put_facts-end.ensures c.del.ensures) c.put.ensures))

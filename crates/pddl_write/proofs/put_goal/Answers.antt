@@ -8,5 +8,5 @@ pub returns : goal.returns
 unfolding spelt numbers_from goal_text
 returns c =
     put_then c.put-atoms.ensures
-    (put_then (put-mask _ _ _ _ _ c.put_atoms-end.ensures c.facts.ensures.value c.goal.ensures)
+    (put_then (put-mask _ _ _ _ c.put_facts-end.ensures c.goal.ensures)
     c.put.ensures)

@@ -3,6 +3,6 @@ use Rattle.semantics.specs.PddlWrite.{member_text}
 use Rattle.pddl_write.proofs.Laws.{put_then}
 use Rattle.pddl_write.proofs.put_member.Goals as goal
 
-pub returns : goal.returns
+pub returns-in-Law : goal.returns-in-Law
 unfolding member_text
-returns c = search put_then
+returns-in-Law c = rw c.in-Law.is (put_then c.put_domain-problem.ensures c.put_problem.ensures)

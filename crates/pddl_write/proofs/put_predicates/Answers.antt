@@ -1,6 +1,6 @@
 -- `pddl_write::put_predicates` meets its contract. Assumes nothing.
-use Rattle.pddl_write.proofs.Laws.{put-all}
+use Rattle.pddl_write.proofs.Laws.{put-all, facts-few}
 use Rattle.pddl_write.proofs.put_predicates.Goals as goal
 
 pub returns : goal.returns
-returns c = search put-all
+returns c = search (put-all, facts-few)

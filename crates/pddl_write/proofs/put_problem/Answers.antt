@@ -9,5 +9,5 @@ unfolding spelt numbers_from problem_text
 returns c =
     put_then c.put_told-domain.ensures
     (put_then c.put_told-initial.ensures
-    (put_then (put-mask _ _ _ _ _ c.put_atoms-goal.ensures c.facts.ensures.value c.initial.ensures)
+    (put_then (put-mask _ _ _ _ c.put_facts-goal.ensures c.initial.ensures)
     c.put_goal.ensures))

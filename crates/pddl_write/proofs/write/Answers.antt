@@ -1,29 +1,18 @@
--- `pddl_write::write` meets its contract. Assumes nothing.
-use mathlib.Core.Path.{◌≡◌}
-use native.Mathlib.Omega.{arith}
-use Rattle.semantics.specs.Task.{check}
-use borrow.Author.Rules.{rules}
+-- `pddl_write::write` meets its contract: one law for each way out. Assumes nothing.
+use Rattle.std.proofs.lemmas.Result.{err_from_is_err_and}
 use Rattle.pddl_write.proofs.Ways.{refused-task, short-text, short-waits, both-written}
 use Rattle.pddl_write.proofs.write.Goals as goal
 
-pub returns-then-refusal-ne0 : goal.returns-then-refusal-ne0
-returns-then-refusal-ne0 c = search refused-task
+pub returns-in_err-t : goal.returns-in_err-t
+returns-in_err-t c =
+    let p = err_from_is_err_and c.from_residual.result c.from_residual.ensures.1 in
+    rw (p.1, p.2) (search (refused-task, c.in_err-t.ensures))
 
 pub returns-then-text-of_text : goal.returns-then-text-of_text
-returns-then-text-of_text c =
-    let z : check c.args.task.now ≡ 0 = search rules in
-    short-text c.args.task.now c.args.text.now c.args.waits.now _ _ z
-    c.law_length-of_text.ensures c.waits_length-of_waits.ensures (omega arith)
+returns-then-text-of_text c = let q = c.in_ok-t.ensures in search short-text
 
 pub returns-then-waits-of_waits : goal.returns-then-waits-of_waits
-returns-then-waits-of_waits c =
-    let z : check c.args.task.now ≡ 0 = search rules in
-    short-waits c.args.task.now c.args.text.now c.args.waits.now _ _ z
-    c.law_length-of_text.ensures c.waits_length-of_waits.ensures (omega arith)
+returns-then-waits-of_waits c = let q = c.in_ok-t.ensures in search short-waits
 
 pub returns : goal.returns
-returns c =
-    let z : check c.args.task.now ≡ 0 = search rules in
-    both-written c.args.task.now c.args.text.now c.args.waits.now _ _ z
-    c.law_length-of_text.ensures c.waits_length-of_waits.ensures _ _ (omega arith) (omega arith)
-    c.fill_law.ensures c.fill_waits.ensures
+returns c = let q = c.in_ok-t.ensures in search both-written

@@ -1,14 +1,14 @@
 -- The record reader as a function of the place and what the byte is, for texts of at most n records of w fields.
-use Rattle.std.specs.Prelude.{◌≡◌, cond, ℕ, ◌+◌, ◌-◌, ◌*◌, ◌/◌, ◌^◌, ◌<◌, eqb, ltb, leb}
+use Rattle.std.specs.Prelude.{◌≡◌, cond, Option, Some, None, ℕ, ◌+◌, ◌-◌, ◌*◌, ◌/◌, ◌^◌, ◌<◌, eqb, ltb, leb}
 use Rattle.text.specs.declared.Byte.{Byte}
 use Rattle.text.specs.declared.Byte.TheVariants.{Digit, Comma, Cr, Lf, Other}
 use Rattle.text.specs.declared.Field.{Field}
 use Rattle.text.specs.declared.Field.TheVariants.{Empty, Number, Ended}
 use Rattle.text.specs.declared.Place.{Place}
 use Rattle.text.specs.declared.Turn.{Turn}
-use Rattle.text.specs.declared.Turn.TheVariants.{On, Word, Bad}
+use Rattle.text.specs.declared.Turn.TheVariants.{On, Word}
 use Rattle.text.specs.declared.Last.{Last}
-use Rattle.text.specs.declared.Last.TheVariants.{Records, Word as LastWord, Bad as BadEnd}
+use Rattle.text.specs.declared.Last.TheVariants.{Records, Word as LastWord}
 
 -- the place with k records and f fields of the next before it
 abbrev pub at : ℕ → ℕ → Field → Place
@@ -21,43 +21,43 @@ pub record InReach (w n : ℕ) (p : Place) : Type 0 where
   pub ended-within : p.field ≡ Ended → p.records < n
 
 -- a field's first byte
-abbrev pub first : ℕ → ℕ → ℕ → Byte → Turn
-first n k f (Digit d) = cond (ltb k n) (On (at k f (Number d))) Bad
-first n k f Comma = Bad
-first n k f Cr = Bad
-first n k f Lf = Bad
-first n k f Other = Bad
+abbrev pub first : ℕ → ℕ → ℕ → Byte → Option Turn
+first n k f (Digit d) = cond (ltb k n) (Some (On (at k f (Number d)))) None
+first n k f Comma = None
+first n k f Cr = None
+first n k f Lf = None
+first n k f Other = None
 
 -- a byte after digits that write v: no digit after a leading zero, and none with which the number is 2^64 or more
-abbrev pub later : ℕ → ℕ → ℕ → ℕ → Byte → Turn
+abbrev pub later : ℕ → ℕ → ℕ → ℕ → Byte → Option Turn
 later w k f v (Digit d) =
-    cond (eqb v 0) Bad (cond (leb v ((2 ^ 64 - 1 - d) / 10)) (On (at k f (Number (10 * v + d)))) Bad)
-later w k f v Comma = cond (ltb (f + 1) w) (Word v (at k (f + 1) Empty)) Bad
-later w k f v Cr = cond (eqb (f + 1) w) (Word v (at k (f + 1) Ended)) Bad
-later w k f v Lf = Bad
-later w k f v Other = Bad
+    cond (eqb v 0) None (cond (leb v ((2 ^ 64 - 1 - d) / 10)) (Some (On (at k f (Number (10 * v + d))))) None)
+later w k f v Comma = cond (ltb (f + 1) w) (Some (Word v (at k (f + 1) Empty))) None
+later w k f v Cr = cond (eqb (f + 1) w) (Some (Word v (at k (f + 1) Ended))) None
+later w k f v Lf = None
+later w k f v Other = None
 
 -- the byte after a record's CR
-abbrev pub ended : ℕ → Byte → Turn
-ended k (Digit d) = Bad
-ended k Comma = Bad
-ended k Cr = Bad
-ended k Lf = On (at (k + 1) 0 Empty)
-ended k Other = Bad
+abbrev pub ended : ℕ → Byte → Option Turn
+ended k (Digit d) = None
+ended k Comma = None
+ended k Cr = None
+ended k Lf = Some (On (at (k + 1) 0 Empty))
+ended k Other = None
 
-abbrev pub step_in : ℕ → ℕ → ℕ → ℕ → Field → Byte → Turn
+abbrev pub step_in : ℕ → ℕ → ℕ → ℕ → Field → Byte → Option Turn
 step_in w n k f Empty b = first n k f b
 step_in w n k f (Number v) b = later w k f v b
 step_in w n k f Ended b = ended k b
 
-abbrev pub step_of : ℕ → ℕ → Place → Byte → Turn
+abbrev pub step_of : ℕ → ℕ → Place → Byte → Option Turn
 step_of w n p b = step_in w n p.records p.fields p.field b
 
 -- the text's end: after a whole record, or in a record's last field
-abbrev pub last_in : ℕ → ℕ → ℕ → Field → Last
-last_in w k f Empty = cond (eqb f 0) (Records k) BadEnd
-last_in w k f (Number v) = cond (eqb (f + 1) w) (LastWord v (k + 1)) BadEnd
-last_in w k f Ended = BadEnd
+abbrev pub last_in : ℕ → ℕ → ℕ → Field → Option Last
+last_in w k f Empty = cond (eqb f 0) (Some (Records k)) None
+last_in w k f (Number v) = cond (eqb (f + 1) w) (Some (LastWord v (k + 1))) None
+last_in w k f Ended = None
 
-abbrev pub last_of : ℕ → Place → Last
+abbrev pub last_of : ℕ → Place → Option Last
 last_of w p = last_in w p.records p.fields p.field
