@@ -18,20 +18,24 @@ ghost use Rattle.semantics.specs.PddlWrite.{write_pddl};
 ghost use Rattle.semantics.specs.Text.{read_text};
 ghost use Rattle.capi_numbers.specs.Call.{call, unless_short, called, VerdictCall};
 ghost use Rattle.capi_numbers.specs.Numbers as numbers;
+ghost use Rattle.solo_search.specs.Value.{found_of};
+ghost use Rattle.pddl_write.specs.Post.{lengths_of};
 ghost use Rattle.capi_run.specs.Runs.{no_run, run_in};
 ghost use Rattle.capi.specs.Play.{RunCall, StartCall, PlayCall};
 
+use capi_numbers::tell;
 use mask::Shared;
-use pddl_write::Written;
-use run_outcome::ReplayAnswer;
+use pddl_write::Lengths;
+use refusal::Refusal;
 use run_ticket::Ticket;
-use solo_replay::SoloAnswer;
-use solo_search::SearchAnswer;
-use step::Stepped;
-use text::TextRead;
+use solo_search::Found;
 
-// The refusal of a slice shorter than stated.
-const SHORT: u64 = 14;
+// What is returned where a slice is shorter than stated.
+fn short() -> u64
+    ensures { result ≡ 14 }
+{
+    u64::from(Refusal::Short)
+}
 
 // ---- task check
 
@@ -39,7 +43,10 @@ const SHORT: u64 = 14;
 pub extern "C" fn lawcheck_task(t: &[u64]) -> u64
     ensures { result ≡ check t.now }
 {
-    task::check(t)
+    match task::check(t) {
+        Ok(_) => 0,
+        Err(e) => u64::from(e),
+    }
 }
 
 // ---- step
@@ -51,21 +58,11 @@ pub extern "C" fn lawcheck_step(t: &[u64], action: u16, shared: &[u64], out: &mu
         (length out.old) 5) numbers.decision out.old
         (step t.now action (state_at shared.now 0)) }
 {
-    if shared.len() != mask::WORDS {
-        return SHORT;
+    if shared.len() != mask::WORDS || out.len() < 5 {
+        return short();
     }
-    if out.len() < 5 {
-        return SHORT;
-    }
-    let s = step::step(t, action, Shared(mask::load(shared, 0)));
-    match s {
-        Stepped::Refused(k) => k,
-        Stepped::Gives(d) => {
-            let numbers = capi_numbers::decision_numbers(d);
-            capi_numbers::put(out, &numbers);
-            0
-        }
-    }
+    let answer = step::step(t, action, Shared(mask::load(shared, 0)));
+    tell(answer.map(capi_numbers::decision_numbers), out)
 }
 
 // ---- solo replay
@@ -77,20 +74,19 @@ pub extern "C" fn lawcheck_solo_replay(t: &[u64], member: u8, plan: &[u16], out:
         (solo_replay t.now member plan.now) }
 {
     if out.len() < 2 {
-        return SHORT;
+        return short();
     }
-    let s = solo_replay::solo_replay(t, member, plan);
-    match s {
-        SoloAnswer::Refused(k) => k,
-        SoloAnswer::Gives(r) => {
-            let numbers = capi_numbers::solo_numbers(r);
-            capi_numbers::put(out, &numbers);
-            0
-        }
-    }
+    let answer = solo_replay::solo_replay(t, member, plan);
+    tell(answer.map(capi_numbers::solo_numbers), out)
 }
 
 // ---- solo search
+
+fn found_numbers(f: Found) -> [u64; 3]
+    ensures { result ≡ numbers.searched (found_of f) }
+{
+    [f.count as u64, f.live as u64, f.marked as u64]
+}
 
 #[unsafe(no_mangle)]
 pub extern "C" fn lawcheck_solo_search(
@@ -114,17 +110,10 @@ pub extern "C" fn lawcheck_solo_search(
         marks.old).marks }
 {
     if out.len() < 3 {
-        return SHORT;
+        return short();
     }
-    let s = solo_search::solo_search(t, member, table, marks);
-    match s {
-        SearchAnswer::Refused(k) => k,
-        SearchAnswer::Gives(count, live, marked) => {
-            let numbers = [count as u64, live as u64, marked as u64];
-            capi_numbers::put(out, &numbers);
-            0
-        }
-    }
+    let answer = solo_search::solo_search(t, member, table, marks);
+    tell(answer.map(found_numbers), out)
 }
 
 // ---- joint replay
@@ -143,19 +132,10 @@ pub extern "C" fn lawcheck_joint_replay(
         picks.now) }
 {
     if out.len() < 7 {
-        return SHORT;
+        return short();
     }
-    let s = run_replay::joint_replay(t, plans, ends, picks);
-    match s {
-        ReplayAnswer::Refused(k) => k,
-        ReplayAnswer::Gives(r) => {
-            let o = r.outcome;
-            let g = r.shared;
-            let numbers = capi_numbers::replay_numbers(o, r.picked as u64, g.0, r.missing);
-            capi_numbers::put(out, &numbers);
-            0
-        }
-    }
+    let answer = run_replay::joint_replay(t, plans, ends, picks);
+    tell(answer.map(capi_numbers::replay_numbers), out)
 }
 
 // ---- a pick, an ask and a commit on a run: the dispatcher is lent the run that the words hold
@@ -174,11 +154,8 @@ pub extern "C" fn lawcheck_pick(
         (run_in run.old) member)
         run.old out.old (call result out.new) run.new }
 {
-    if capi_run::no_run(run) {
-        return SHORT;
-    }
-    if out.len() < 3 {
-        return SHORT;
+    if capi_run::no_run(run) || out.len() < 3 {
+        return short();
     }
     let p = run_dispatch::once(t, plans, ends, capi_run::run_of(run), member);
     capi_run::tell_dispatched(run, p, out)
@@ -199,11 +176,8 @@ pub extern "C" fn lawcheck_ask(
         (ask_on t.now plans.now ends.now
         (run_in run.now) member) }
 {
-    if capi_run::no_run(run) {
-        return SHORT;
-    }
-    if out.len() < 7 {
-        return SHORT;
+    if capi_run::no_run(run) || out.len() < 7 {
+        return short();
     }
     let a = run_ticket::ask(t, plans, ends, capi_run::run_of(run), member);
     capi_run::tell_asked(a, out)
@@ -224,16 +198,10 @@ pub extern "C" fn lawcheck_commit(
         (run_in run.old) (record { member = member; change = change }))
         run.old out.old (call result out.new) run.new }
 {
-    if capi_run::no_run(run) {
-        return SHORT;
+    if capi_run::no_run(run) || out.len() < 3 {
+        return short();
     }
-    if out.len() < 3 {
-        return SHORT;
-    }
-    let ticket = Ticket {
-        member: member,
-        change: change,
-    };
+    let ticket = Ticket { member, change };
     let p = run_dispatch::commit_once(t, plans, ends, capi_run::run_of(run), ticket);
     capi_run::tell_dispatched(run, p, out)
 }
@@ -245,16 +213,16 @@ pub extern "C" fn lawcheck_start(t: &[u64], run: &mut [u64]) -> u64
     ensures { StartCall t.now run.old result run.new }
 {
     if run.len() < capi_run::RUN_WORDS {
-        return SHORT;
+        return short();
     }
     let s = run_dispatch::start(t);
-    let e = s.refusal;
-    if e != 0 {
-        return e;
+    match s.answer {
+        Ok(()) => {
+            capi_numbers::put(run, &capi_run::words_of(s.run));
+            0
+        }
+        Err(e) => u64::from(e),
     }
-    let w = capi_run::words_of(s.run);
-    capi_numbers::put(run, &w);
-    0
 }
 
 #[unsafe(no_mangle)]
@@ -271,16 +239,16 @@ pub extern "C" fn lawcheck_play(
         picks.now answers.old result run.new answers.new }
 {
     if capi_run::no_run(run) {
-        return SHORT;
+        return short();
     }
     let p = run_play::play(t, plans, ends, capi_run::run_of(run), picks, answers);
-    let e = p.refusal;
-    if e != 0 {
-        return e;
+    match p.answer {
+        Ok(()) => {
+            capi_numbers::put(run, &capi_run::words_of(p.run));
+            0
+        }
+        Err(e) => u64::from(e),
     }
-    let w = capi_run::words_of(p.run);
-    capi_numbers::put(run, &w);
-    0
 }
 
 // ---- the verdict
@@ -305,13 +273,19 @@ pub extern "C" fn lawcheck_verdict(
         out.old (call result out.new) }
 {
     if out.len() < 5 {
-        return SHORT;
+        return short();
     }
-    let v = verdict::verdict(t, local, marks, confs, trail, plans, ends, picks);
-    capi_numbers::tell(v, out)
+    let answer = verdict::verdict(t, local, marks, confs, trail, plans, ends, picks);
+    tell(answer.map(capi_numbers::verdict_numbers), out)
 }
 
 // ---- the text reader
+
+fn record_numbers(n: usize) -> [u64; 1]
+    ensures { result ≡ numbers.records n }
+{
+    [n as u64]
+}
 
 #[unsafe(no_mangle)]
 pub extern "C" fn lawcheck_read(text: &[u8], words: &mut [u64], out: &mut [u64]) -> u64
@@ -323,17 +297,9 @@ pub extern "C" fn lawcheck_read(text: &[u8], words: &mut [u64], out: &mut [u64])
         (read_text text.now words.old).words }
 {
     if out.len() < 1 {
-        return SHORT;
+        return short();
     }
-    let s = text::read(text, words);
-    match s {
-        TextRead::Refused(k) => k,
-        TextRead::Gives(n) => {
-            let numbers = [n as u64];
-            capi_numbers::put(out, &numbers);
-            0
-        }
-    }
+    tell(text::read(text, words).map(record_numbers), out)
 }
 
 // ---- the reader and the writer of PDDL
@@ -353,17 +319,15 @@ pub extern "C" fn lawcheck_pddl_read(
         (read_pddl text.now waits.now words.old).words }
 {
     if out.len() < 1 {
-        return SHORT;
+        return short();
     }
-    let s = pddl::read(text, waits, words);
-    match s {
-        TextRead::Refused(refusal) => refusal,
-        TextRead::Gives(n) => {
-            let numbers = [n as u64];
-            capi_numbers::put(out, &numbers);
-            0
-        }
-    }
+    tell(pddl::read(text, waits, words).map(record_numbers), out)
+}
+
+fn length_numbers(l: Lengths) -> [u64; 2]
+    ensures { result ≡ numbers.lengths (lengths_of l) }
+{
+    [l.of_text as u64, l.of_waits as u64]
 }
 
 #[unsafe(no_mangle)]
@@ -384,15 +348,7 @@ pub extern "C" fn lawcheck_pddl_write(
         (write_pddl t.now text.old waits.old).waits }
 {
     if out.len() < 2 {
-        return SHORT;
+        return short();
     }
-    let w = pddl_write::write(t, text, waits);
-    match w {
-        Written::Refused(k) => k,
-        Written::Gives(a, b) => {
-            let numbers = [a as u64, b as u64];
-            capi_numbers::put(out, &numbers);
-            0
-        }
-    }
+    tell(pddl_write::write(t, text, waits).map(length_numbers), out)
 }

@@ -2,7 +2,7 @@
 
 #![tactic(auto)]
 
-ghost use Rattle.std.specs.Prelude.{◌≤◌, ◌≡◌, length};
+ghost use Rattle.std.specs.Prelude.{◌≤◌, ◌≡◌, IfOk, length};
 ghost use Rattle.std.specs.Io.{ReadsAtMost, WritesAtMost};
 
 use std::io;
@@ -12,13 +12,6 @@ use std::io::{ErrorKind, Read, Write};
 // row; then it counts as one that failed. Without a bound the program would not provably end;
 // a thousand signals a second reach this one in a quarter of an hour.
 const TRIES: usize = 1000000;
-
-// What was read: so many bytes, and the error of a read that failed.
-#[derive(Drop)]
-struct Input {
-    bytes: usize,
-    failed: Option<io::Error>,
-}
 
 // One byte more than the longest text has: what fills the buffer is no text, and neither is what it
 // is the front of.
@@ -74,27 +67,20 @@ fn write_some(output: &mut impl Write, buf: &[u8]) -> io::Result<usize>
     output.write(buf)
 }
 
-// Reads until the input ends, the buffer is full or a read fails.
-fn read_all(input: &mut impl Read, buf: &mut [u8]) -> Input
-    ensures { result.bytes ≤ length buf.new }
+// Reads until the input ends or the buffer is full: the bytes read.
+fn read_all(input: &mut impl Read, buf: &mut [u8]) -> io::Result<usize>
+    ensures { IfOk result (λ n. n ≤ length buf.new) }
 {
     let mut done = 0;
+    // A `while`: only the read tells how far it came.
     while done < buf.len() {
-        match read_some(input, &mut buf[done..]) {
-            Ok(0) => break,
-            Ok(n) => done += n,
-            Err(e) => {
-                return Input {
-                    bytes: done,
-                    failed: Some(e),
-                };
-            }
+        let n = read_some(input, &mut buf[done..])?;
+        if n == 0 {
+            break;
         }
+        done += n;
     }
-    Input {
-        bytes: done,
-        failed: None,
-    }
+    Ok(done)
 }
 
 // On standard error: which stream failed, and the system's words for the error.
@@ -112,6 +98,7 @@ fn fail(rt: &(impl Eprint + AllocGlobal), stream: &str, error: &io::Error) {
 // Writes all bytes, or stops at a write that fails or takes nothing, and says so on standard error.
 fn print(rt: &(impl Eprint + AllocGlobal), output: &mut impl Write, buf: &[u8]) {
     let mut done = 0;
+    // A `while`: only the write tells how far it came.
     while done < buf.len() {
         match write_some(output, &buf[done..]) {
             Ok(0) => {
@@ -130,13 +117,12 @@ fn print(rt: &(impl Eprint + AllocGlobal), output: &mut impl Write, buf: &[u8]) 
 
 fn main(rt: HostRuntime) {
     let mut text = text_room();
-    let read = read_all(&mut rt.stdin(), &mut text);
-    if let Some(e) = read.failed {
-        fail(&rt, "standard input", &e);
-        return;
+    match read_all(&mut rt.stdin(), &mut text) {
+        Ok(n) => {
+            let mut out = file_room();
+            let r = program::verdict_file(&text[..n], &mut out);
+            print(&rt, &mut rt.stdout(), &out[..r]);
+        }
+        Err(e) => fail(&rt, "standard input", &e),
     }
-    let n = read.bytes;
-    let mut out = file_room();
-    let r = program::verdict_file(&text[..n], &mut out);
-    print(&rt, &mut rt.stdout(), &out[..r]);
 }

@@ -29,8 +29,9 @@ use Rattle.theory.proofs.Accepted.{accepted, accepted-lawful}
 use Rattle.theory.proofs.Verdict.{Found, found}
 use Rattle.theory.proofs.Demand3.{given-answer, demand3-answer}
 use Rattle.text.specs.Post.{most_words, reading}
-use Rattle.text.specs.declared.TextRead.{TextRead}
-use Rattle.text.specs.declared.TextRead.TheVariants.{Refused, Gives}
+use Rattle.refusal.specs.declared.Refusal.{Refusal}
+use Rattle.std.specs.Prelude.{Result, Ok, Err}
+use Rattle.refusal.specs.Number as refusals
 use Rattle.run_plans.proofs.Laws.{part}
 use Rattle.report.specs.File.{word, header, line, file}
 use Rattle.report.specs.Inner.Put.{most_file, most_facts, Holds}
@@ -309,13 +310,13 @@ pub record Words (text words out : List ℕ) (n : ℕ) : Type 0 where
   pub room : row_width * n ≤ length out
   pub words-read : take (row_width * n) out ≡ text_words text
 
-module _ (text words out : List ℕ) (long : most_words ≤ length words) (r : TextRead)
+module _ (text words out : List ℕ) (long : most_words ≤ length words) (r : Result ℕ Refusal)
     (e : reading r out ≡ read_text text words) where
-  pub words-of : (n : ℕ) → r ≡ Gives n → Words text words out n
+  pub words-of : (n : ℕ) → r ≡ Ok n → Words text words out n
   unfolding read_text read_records text_words is_text
   words-of n f =
-      let g : reading (Gives n) out ≡ read_text text words =
-      subst (λ (q : TextRead). reading q out ≡ read_text text words) f e in
+      let g : reading (Ok n) out ≡ read_text text words =
+      subst (λ (q : Result ℕ Refusal). reading q out ≡ read_text text words) f e in
       let bad = 15 if not (is_text row_width most_records text) in
       let (x, h) = unrefused words (14 if ltb (length words) most_words) _ g in
       let (y, z) = unrefused (zeroed words) (bad else check (text_words text)) _ h in
@@ -335,12 +336,12 @@ module _ (text words out : List ℕ) (long : most_words ≤ length words) (r : T
             (row_width * n) same);
       }
     where
-      unrefused : (ws : List ℕ) (a : ℕ) (q : Reading) → reading (Gives n) out ≡ (a leaves refused_with ws otherwise q)
-          → (a ≡ 0) × (reading (Gives n) out ≡ q)
+      unrefused : (ws : List ℕ) (a : ℕ) (q : Reading) → reading (Ok n) out ≡ (a leaves refused_with ws otherwise q)
+          → (a ≡ 0) × (reading (Ok n) out ≡ q)
       unrefused ws (suc a) q g = absurd (refused-gives (sym (ap (λ (q : Reading). q.answer) g)))
       unrefused ws zero q g = (refl, g)
 
-module _ (text words out : List ℕ) (zeros : words ≡ replicate most_words 0) (r : TextRead)
+module _ (text words out : List ℕ) (zeros : words ≡ replicate most_words 0) (r : Result ℕ Refusal)
     (e : reading r out ≡ read_text text words) where
   answered : (read_text text words).answer ≡ (read_text text (replicate most_words 0)).answer
   answered = ap (λ (w : List ℕ). (read_text text w).answer) zeros
@@ -352,10 +353,10 @@ module _ (text words out : List ℕ) (zeros : words ≡ replicate most_words 0) 
       subst (λ (a : Answer ℕ). AtFront (printed_for a text) before after c) (sym w.answer ∙ answered)
       (subst (λ (t : List ℕ). AtFront (reported t) before after c) w.words-read f)
 
-  pub prints_refusal : (k : ℕ) → r ≡ Refused k → {before after : List ℕ} {c : ℕ}
-      → Laid (header ++ line (word "refused") k) before 0 after c → AtFront (printed text) before after c
+  pub prints_refusal : (k : Refusal) → r ≡ Err k → {before after : List ℕ} {c : ℕ}
+      → Laid (header ++ line (word "refused") (refusals.number k)) before 0 after c → AtFront (printed text) before after c
   unfolding printed
   prints_refusal k f {before} {after} {c} l =
-      let a : refused k ≡ (read_text text words).answer =
-      ap (λ (q : TextRead). (reading q out).answer) (sym f) ∙ ap (λ (q : Reading). q.answer) e in
+      let a : refused (refusals.number k) ≡ (read_text text words).answer =
+      ap (λ (q : Result ℕ Refusal). (reading q out).answer) (sym f) ∙ ap (λ (q : Reading). q.answer) e in
       subst (λ (a : Answer ℕ). AtFront (printed_for a text) before after c) (a ∙ answered) (at_front l)

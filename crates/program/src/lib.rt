@@ -4,12 +4,11 @@
 
 ghost use Rattle.std.specs.Prelude.{◌≡◌, ◌≤◌, length, replicate};
 ghost use Rattle.semantics.specs.Verdict.{lent_of};
-ghost use Rattle.semantics.specs.Task.{check};
 ghost use Rattle.text.specs.Post.{most_words};
 ghost use Rattle.program.specs.Program.{lent_for, reported, printed, AtFront};
 ghost use Rattle.program.specs.Inner.Most.{most_bytes};
 
-use text::TextRead;
+use task::Task;
 
 const LOCAL_WORDS: usize = 4096;
 
@@ -38,7 +37,7 @@ pub const MOST_BYTES: usize = 16
 
 // The file of the verdict on an accepted task, with zero slices of the program's lengths.
 fn judge(
-    t: &[u64],
+    t: &Task,
     local: &mut [u64],
     marks: &mut [u8],
     confs: &mut [u64],
@@ -48,24 +47,22 @@ fn judge(
     picks: &mut [u8],
     out: &mut [u8],
 ) -> usize
-    requires t_value { check t.now ≡ 0 }
     requires picks_value { lent_of local.old marks.old confs.old trail.old plans.old ends.old
-        picks.old ≡ lent_for t.now }
+        picks.old ≡ lent_for t.now.words.now }
     requires most_bytes_in_bounds { most_bytes ≤ length out.old }
-    ensures { AtFront (reported t.now) out.old out.new result }
+    ensures { AtFront (reported t.now.words.now) out.old out.new result }
 {
-    let n = task::members(t);
-    let answer = verdict::verdict(t, local, marks, confs, trail, plans, ends, picks);
+    let n = t.members();
+    let answer = verdict::verdict(t.words, local, marks, confs, trail, plans, ends, picks);
     report::put_file(out, answer, n, plans, ends, picks)
 }
 
 // The same, with slices of its own.
-fn of_task(t: &[u64], out: &mut [u8]) -> usize
-    requires t_value { check t.now ≡ 0 }
-    requires most_bytes_in_bounds { most_bytes ≤ length out.old }
-    ensures { AtFront (reported t.now) out.old out.new result }
+fn of_task(t: &Task, out: &mut [u8]) -> usize
+    requires { most_bytes ≤ length out.old }
+    ensures { AtFront (reported t.now.words.now) out.old out.new result }
 {
-    let n = task::members(t);
+    let n = t.members();
     let rows = n * (LOCAL_COPIES / n);
     let most = CONFIGURATION_COPIES / (n + 1);
     let mut local = [0u64; LOCAL_WORDS];
@@ -96,8 +93,13 @@ fn of_text(text: &[u8], words: &mut [u64], out: &mut [u8]) -> usize
         out.new result }
 {
     match text::read(text, words) {
-        TextRead::Gives(n) => of_task(&words[..text::ROW * n], out),
-        TextRead::Refused(k) => report::put_refusal(out, k),
+        Ok(n) => {
+            let t = Task {
+                words: &words[..text::ROW * n],
+            };
+            of_task(&t, out)
+        }
+        Err(e) => report::put_refusal(out, e),
     }
 }
 

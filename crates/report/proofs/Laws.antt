@@ -147,6 +147,18 @@ module _ {f : ℕ → List ℕ} {xs before : List ℕ} {at : ℕ} where
         (subst (λ (l : List ℕ). Laid (spread f l) out next out next) (sym (drop_of_length-le xs h))
         (laid_none out next (omega (arith, s.room))))
 
+-- numbers that are their own values
+pub same_values : (xs : List ℕ) → map (λ (x : ℕ). x) xs ≡ xs
+same_values [] = refl
+same_values (x ∷ xs) = ap (λ (l : List ℕ). x ∷ l) (same_values xs)
+
+-- the value of the entry at i
+pub value_at : {A : Type 0} (f : A → ℕ) (xs : List A) (i : ℕ) (x : A) (v : ℕ) → i < length xs → x ≡ get_or xs i x
+    → v ≡ f x → v ≡ get_or (map f xs) i 0
+value_at f [] i x v h e is = absurd (omega arith)
+value_at f (y ∷ ys) zero x v h e is = is ∙ ap f e
+value_at f (y ∷ ys) (suc i) x v h e is = value_at f ys i x v (omega arith) e is
+
 -- a line for each entry that passes the test
 spread-kept : (p : ℕ → Bool) (f : ℕ → List ℕ) (xs : List ℕ)
     → spread (λ x. cond (p x) (f x) []) xs ≡ spread f (keep p xs)
@@ -182,15 +194,6 @@ module _ (m f : ℕ) (b : Bool) (e : b ≡ has f m) (out : List ℕ) (at : ℕ) 
   pub fact-put : b ≡ true → (after : List ℕ) (r : ℕ) → Laid (line (word "missing") f) out at after r
       → Laid (missing_line m f) out at after r
   fact-put h after r l = rw (← e, h) l
-
-  pub fact-none : b ≡ false → Laid (missing_line m f) out at out at
-  fact-none h = rw (← e, h) (laid_none out at (omega (arith, room.fits)))
-
--- the bytes of a list, one by one
-pub spread-bytes : (xs : List ℕ) → spread (λ x. x ∷ []) xs ≡ xs
-unfolding flatten
-spread-bytes [] = refl
-spread-bytes (x ∷ xs) = ap (λ (l : List ℕ). x ∷ l) (spread-bytes xs)
 
 -- ---- a member's plan
 

@@ -1,2 +1,3 @@
 -- Inner invariants: no promise of the public functions.
 pub mod Put
+pub mod Slices

@@ -4,21 +4,43 @@
 
 #![tactic(auto)]
 
-ghost use Rattle.std.specs.Prelude.{◌≡◌, [], ◌∷◌, ◌++◌, ◌+◌, ◌≤◌, ◌<◌, length, get_or};
+ghost use Rattle.std.specs.Prelude.{◌≡◌, ℕ, [], ◌∷◌, ◌++◌, ◌+◌, ◌≤◌, ◌<◌, length, map};
 ghost use Rattle.std.proofs.Math.Seq.{slice};
 ghost use Rattle.theory.proofs.Laid.{Laid};
 ghost use Rattle.semantics.specs.Text.{digits};
 ghost use Rattle.semantics.specs.Base.{gives};
 ghost use Rattle.semantics.specs.Verdict.{not_robust, conflict_picks};
+ghost use Rattle.refusal.specs.Number.{answered};
+ghost use Rattle.refusal.specs.Number as refusals;
 ghost use Rattle.mask.specs.Number.{number};
-ghost use Rattle.fault.specs.Value.{fault_of, failing_of, verdict_of, answer_of};
+ghost use Rattle.fault.specs.Value.{fault_of, failing_of, verdict_of};
 ghost use Rattle.report.specs.File.{word, header, line, lines, plan_lines, plans_lines};
 ghost use Rattle.report.specs.File.{conflict_lines, fault_line, missing_lines, body, file};
 ghost use Rattle.report.specs.Inner.Put.{most_line, most_file, most_facts, Room, Inside};
-ghost use Rattle.report.specs.Inner.Put.{Holds, missing_line, conflict_of};
+ghost use Rattle.report.specs.Inner.Put.{Holds, missing_line};
+ghost use Rattle.report.specs.Inner.Slices.{HeldIn, conflict_in, body_in};
 
-use fault::{Failing, Fault, Verdict, VerdictAnswer};
+use fault::{Failing, Fault, Verdict};
 use mask::Mask;
+use refusal::Refusal;
+
+// The plans of a task's members: the actions of all, and where those of each end.
+#[derive(Clone, Copy)]
+struct Plans<'a> {
+    members: usize,
+    actions: &'a [u16],
+    ends: &'a [u64],
+    ghost inside: { Inside members actions.now ends.now },
+}
+
+// The slices that hold a conflict, if the answer comes with one.
+#[derive(Clone, Copy)]
+struct Slices<'a> {
+    members: usize,
+    plans: &'a [u16],
+    ends: &'a [u64],
+    picks: &'a [u8],
+}
 
 // The most facts of a mask.
 const MOST_FACTS: u64 = 128;
@@ -35,13 +57,9 @@ fn put(out: &mut [u8], at: usize, bytes: &[u8]) -> usize
     requires { Room out.old at bytes.now }
     ensures { Laid bytes.now out.old at out.new result }
 {
-    let mut next = at;
-    let mut i = 0;
-    while i < bytes.len() {
-        next = put_byte(out, next, bytes[i]);
-        i += 1;
-    }
-    next
+    let end = at + bytes.len();
+    out[at..end].copy_from_slice(bytes);
+    end
 }
 
 // In base ten.
@@ -67,44 +85,39 @@ fn put_line(out: &mut [u8], at: usize, word: &[u8], v: u64) -> usize
     put_byte(out, lf, b'\n')
 }
 
-fn wide(x: u16) -> u64
-    ensures { result ≡ x }
-{
-    x as u64
+// What a list of lines tells: a number that a word holds.
+trait Number: Copy {
+    ghost value: { Self → ℕ };
+
+    fn word(self) -> u64
+        ensures { result ≡ value self };
 }
 
-fn wider(x: u8) -> u64
-    ensures { result ≡ x }
-{
-    x as u64
-}
+impl Number for u8 {
+    ghost value = { λ x. x };
 
-// A line for each action of a plan.
-fn put_actions(out: &mut [u8], at: usize, word: &[u8], plan: &[u16]) -> usize
-    requires { Room out.old at (lines word.now plan.now) }
-    ensures { Laid (lines word.now plan.now) out.old at
-        out.new result }
-{
-    let mut next = at;
-    let mut i = 0;
-    while i < plan.len() {
-        next = put_line(out, next, word, wide(plan[i]));
-        i += 1;
+    fn word(self) -> u64 {
+        u64::from(self)
     }
-    next
 }
 
-// A line for each pick.
-fn put_picks(out: &mut [u8], at: usize, word: &[u8], picks: &[u8]) -> usize
-    requires { Room out.old at (lines word.now picks.now) }
-    ensures { Laid (lines word.now picks.now) out.old at
+impl Number for u16 {
+    ghost value = { λ x. x };
+
+    fn word(self) -> u64 {
+        u64::from(self)
+    }
+}
+
+// A line for each of the numbers.
+fn put_lines<T: Number>(out: &mut [u8], at: usize, word: &[u8], numbers: &[T]) -> usize
+    requires { Room out.old at (lines word.now (map T.value numbers.now)) }
+    ensures { Laid (lines word.now (map T.value numbers.now)) out.old at
         out.new result }
 {
     let mut next = at;
-    let mut i = 0;
-    while i < picks.len() {
-        next = put_line(out, next, word, wider(picks[i]));
-        i += 1;
+    for number in numbers {
+        next = put_line(out, next, word, number.word());
     }
     next
 }
@@ -117,60 +130,41 @@ fn put_part(out: &mut [u8], at: usize, plans: &[u16], from: usize, to: usize) ->
     ensures { Laid (lines (word "action") (slice from to plans.now))
         out.old at out.new result }
 {
-    put_actions(out, at, b"action", &plans[from..to])
+    put_lines(out, at, b"action", &plans[from..to])
 }
 
-// Where member i's plan ends.
-fn end(ends: &[u64], i: usize) -> usize
-    requires { i < length ends.now }
-    ensures { result ≡ get_or ends.now i 0 }
-{
-    ends[i] as usize
-}
-
-fn put_plan(out: &mut [u8], at: usize, n: usize, plans: &[u16], ends: &[u64], i: usize) -> usize
-    requires i_lt_n { i < n }
-    requires inside { Inside n plans.now ends.now }
-    requires room { Room out.old at (plan_lines plans.now ends.now i) }
-    ensures { Laid (plan_lines plans.now ends.now i)
+fn put_plan(out: &mut [u8], at: usize, p: &Plans, i: usize) -> usize
+    requires i_lt_n { i < p.now.members }
+    requires room { Room out.old at (plan_lines p.now.actions.now p.now.ends.now i) }
+    ensures { Laid (plan_lines p.now.actions.now p.now.ends.now i)
         out.old at out.new result }
 {
     let next = put_line(out, at, b"plan", i as u64);
-    let from = run_plans::beginning(ends, i) as usize;
-    put_part(out, next, plans, from, end(ends, i))
+    let from = run_plans::beginning(p.ends, i) as usize;
+    put_part(out, next, p.actions, from, p.ends[i] as usize)
 }
 
-fn put_plans(out: &mut [u8], at: usize, n: usize, plans: &[u16], ends: &[u64]) -> usize
-    requires inside { Inside n plans.now ends.now }
-    requires room { Room out.old at (plans_lines n plans.now ends.now) }
-    ensures { Laid (plans_lines n plans.now ends.now)
+fn put_plans(out: &mut [u8], at: usize, p: &Plans) -> usize
+    requires { Room out.old at (plans_lines p.now.members p.now.actions.now p.now.ends.now) }
+    ensures { Laid (plans_lines p.now.members p.now.actions.now p.now.ends.now)
         out.old at out.new result }
 {
     let mut next = at;
-    let mut i = 0;
-    while i < n {
-        next = put_plan(out, next, n, plans, ends, i);
-        i += 1;
+    for i in 0..p.members {
+        next = put_plan(out, next, p, i);
     }
     next
 }
 
-fn put_conflict(
-    out: &mut [u8],
-    at: usize,
-    n: usize,
-    plans: &[u16],
-    ends: &[u64],
-    picks: &[u8],
-) -> usize
-    requires inside { Inside n plans.now ends.now }
-    requires room { Room out.old at (conflict_lines n plans.now ends.now picks.now) }
+fn put_conflict(out: &mut [u8], at: usize, p: &Plans, picks: &[u8]) -> usize
+    requires { Room out.old at
+        (conflict_lines p.now.members p.now.actions.now p.now.ends.now picks.now) }
     ensures { Laid
-        (conflict_lines n plans.now ends.now picks.now)
+        (conflict_lines p.now.members p.now.actions.now p.now.ends.now picks.now)
         out.old at out.new result }
 {
-    let next = put_plans(out, at, n, plans, ends);
-    put_picks(out, next, b"pick", picks)
+    let next = put_plans(out, at, p);
+    put_lines(out, next, b"pick", picks)
 }
 
 // The line of column names.
@@ -181,27 +175,14 @@ fn put_header(out: &mut [u8]) -> usize
     put(out, 0, b"verdict,number\r\n")
 }
 
-fn put_refused(out: &mut [u8], at: usize, refusal: u64) -> usize
-    requires { at + most_line ≤ length out.old }
-    ensures { Laid (line (word "refused") refusal) out.old at
-        out.new result }
+// The line of a verdict's word: of ten letters at most.
+fn put_short(out: &mut [u8], at: usize, word: &[u8], number: u64) -> usize
+    requires letters { length word.now ≤ 10 }
+    requires room { at + most_line ≤ length out.old }
+    ensures laid { Laid (line word.now number) out.old at out.new result }
+    ensures upper_bound { result ≤ at + most_line }
 {
-    put_line(out, at, b"refused", refusal)
-}
-
-fn put_unsolvable(out: &mut [u8], at: usize, member: usize) -> usize
-    requires { at + most_line ≤ length out.old }
-    ensures { Laid (line (word "unsolvable") member) out.old at
-        out.new result }
-{
-    put_line(out, at, b"unsolvable", member as u64)
-}
-
-fn put_robust(out: &mut [u8], at: usize, count: usize) -> usize
-    requires { at + most_line ≤ length out.old }
-    ensures { Laid (line (word "robust") count) out.old at out.new result }
-{
-    put_line(out, at, b"robust", count as u64)
+    put_line(out, at, word, number)
 }
 
 // A fault's line.
@@ -211,12 +192,11 @@ fn put_fault(out: &mut [u8], at: usize, f: Failing) -> usize
         out.new result }
     ensures upper_bound { result ≤ at + most_line }
 {
-    let fault = f.fault;
     let done = f.picked as u64;
-    match fault {
-        Fault::Collision => put_line(out, at, b"collision", done),
-        Fault::Deadlock => put_line(out, at, b"deadlock", done),
-        Fault::Missed(member) => put_line(out, at, b"missed", member as u64),
+    match f.fault {
+        Fault::Collision => put_short(out, at, b"collision", done),
+        Fault::Deadlock => put_short(out, at, b"deadlock", done),
+        Fault::Missed(member) => put_short(out, at, b"missed", member as u64),
     }
 }
 
@@ -232,16 +212,14 @@ fn put_fact(out: &mut [u8], at: usize, m: Mask, f: u64) -> usize
     at
 }
 
-// A line for each fact of the mask.
+// A line for each fact of the mask, the lowest first.
 fn put_missing(out: &mut [u8], at: usize, m: Mask) -> usize
     requires { Room out.old at (missing_lines (number m)) }
     ensures { Laid (missing_lines (number m)) out.old at out.new result }
 {
     let mut next = at;
-    let mut f: u64 = 0; // the lowest first
-    while f < MOST_FACTS {
+    for f in 0..MOST_FACTS {
         next = put_fact(out, next, m, f);
-        f += 1;
     }
     next
 }
@@ -251,113 +229,93 @@ fn pick_count(picks: &[u8], f: Failing) -> usize
     requires { conflict_picks (fault_of f.fault) f.picked ≤ length picks.now }
     ensures { result ≡ conflict_picks (fault_of f.fault) f.picked }
 {
-    let fault = f.fault;
-    match fault {
+    match f.fault {
         Fault::Collision => f.picked + 1,
-        Fault::Deadlock => f.picked,
-        Fault::Missed(_) => f.picked,
+        Fault::Deadlock | Fault::Missed(_) => f.picked,
     }
 }
 
 // A fault's line, then the lines of what is missing, then its conflict.
-fn put_failing(
-    out: &mut [u8],
-    at: usize,
-    f: Failing,
-    n: usize,
-    plans: &[u16],
-    ends: &[u64],
-    picks: &[u8],
-) -> usize
-    requires holds { Holds (gives (not_robust (failing_of f))) n plans.now ends.now picks.now }
+fn put_failing(out: &mut [u8], at: usize, f: Failing, s: &Slices) -> usize
+    requires holds { HeldIn (gives (not_robust (failing_of f))) s.now }
     requires room { Room out.old (at + most_line)
-        (conflict_of (gives (not_robust (failing_of f))) n plans.now ends.now picks.now) }
-    ensures { Laid
-        (body (gives (not_robust (failing_of f))) n plans.now ends.now
-        picks.now)
+        (conflict_in (gives (not_robust (failing_of f))) s.now) }
+    ensures { Laid (body_in (gives (not_robust (failing_of f))) s.now)
         out.old at out.new result }
 {
     let missing = put_fault(out, at, f);
     let next = put_missing(out, missing, f.missing);
-    let count = pick_count(picks, f);
-    put_conflict(out, next, n, plans, ends, &picks[..count])
+    let count = pick_count(s.picks, f);
+    let plans = Plans {
+        members: s.members,
+        actions: s.plans,
+        ends: s.ends,
+    };
+    put_conflict(out, next, &plans, &s.picks[..count])
 }
 
 // The lines of a verdict.
-fn put_verdict(
-    out: &mut [u8],
-    at: usize,
-    v: Verdict,
-    n: usize,
-    plans: &[u16],
-    ends: &[u64],
-    picks: &[u8],
-) -> usize
-    requires holds { Holds (gives (verdict_of v)) n plans.now ends.now picks.now }
+fn put_verdict(out: &mut [u8], at: usize, v: Verdict, s: &Slices) -> usize
+    requires holds { HeldIn (gives (verdict_of v)) s.now }
     requires room { Room out.old (at + most_line)
-        (conflict_of (gives (verdict_of v)) n plans.now ends.now picks.now) }
-    ensures { Laid
-        (body (gives (verdict_of v)) n plans.now ends.now
-        picks.now)
+        (conflict_in (gives (verdict_of v)) s.now) }
+    ensures { Laid (body_in (gives (verdict_of v)) s.now)
         out.old at out.new result }
 {
     match v {
-        Verdict::Unsolvable(i) => put_unsolvable(out, at, i),
-        Verdict::NotRobust(f) => put_failing(out, at, f, n, plans, ends, picks),
-        Verdict::Robust(count) => put_robust(out, at, count),
+        Verdict::Unsolvable(i) => put_short(out, at, b"unsolvable", i as u64),
+        Verdict::NotRobust(f) => put_failing(out, at, f, s),
+        Verdict::Robust(count) => put_short(out, at, b"robust", count as u64),
     }
 }
 
 // The lines after the first.
-fn put_body(
-    out: &mut [u8],
-    at: usize,
-    answer: VerdictAnswer,
-    n: usize,
-    plans: &[u16],
-    ends: &[u64],
-    picks: &[u8],
-) -> usize
-    requires holds { Holds (answer_of answer) n plans.now ends.now picks.now }
+fn put_body(out: &mut [u8], at: usize, answer: Result<Verdict, Refusal>, s: &Slices) -> usize
+    requires holds { HeldIn (answered verdict_of answer) s.now }
     requires room { Room out.old (at + most_line)
-        (conflict_of (answer_of answer) n plans.now ends.now picks.now) }
-    ensures { Laid
-        (body (answer_of answer) n plans.now ends.now picks.now)
+        (conflict_in (answered verdict_of answer) s.now) }
+    ensures { Laid (body_in (answered verdict_of answer) s.now)
         out.old at out.new result }
 {
     match answer {
-        VerdictAnswer::Refused(k) => put_refused(out, at, k),
-        VerdictAnswer::Gives(v) => put_verdict(out, at, v, n, plans, ends, picks),
+        Err(e) => put_short(out, at, b"refused", u64::from(e)),
+        Ok(v) => put_verdict(out, at, v, s),
     }
 }
 
 // The file of a refusal, at the slice's front; the rest is as it was.
-pub fn put_refusal(out: &mut [u8], refusal: u64) -> usize
+pub fn put_refusal(out: &mut [u8], refusal: Refusal) -> usize
     requires { most_file 1 ≤ length out.old }
-    ensures { Laid (header ++ line (word "refused") refusal) out.old 0
+    ensures { Laid (header ++ line (word "refused") (refusals.number refusal)) out.old 0
         out.new result }
 {
     let at = put_header(out);
-    put_refused(out, at, refusal)
+    put_short(out, at, b"refused", u64::from(refusal))
 }
 
 // The file of a verdict's answer on a task of n members, at the slice's front; the rest is as it
 // was.
 pub fn put_file(
     out: &mut [u8],
-    answer: VerdictAnswer,
+    answer: Result<Verdict, Refusal>,
     n: usize,
     plans: &[u16],
     ends: &[u64],
     picks: &[u8],
 ) -> usize
-    requires holds { Holds (answer_of answer) n plans.now ends.now picks.now }
+    requires holds { Holds (answered verdict_of answer) n plans.now ends.now picks.now }
     requires picks_in_bounds { most_file (1 + most_facts + n + length plans.now + length picks.now)
         ≤ length out.old }
     ensures { Laid
-        (file (answer_of answer) n plans.now ends.now picks.now)
+        (file (answered verdict_of answer) n plans.now ends.now picks.now)
         out.old 0 out.new result }
 {
     let next = put_header(out);
-    put_body(out, next, answer, n, plans, ends, picks)
+    let slices = Slices {
+        members: n,
+        plans,
+        ends,
+        picks,
+    };
+    put_body(out, next, answer, &slices)
 }

@@ -2,436 +2,332 @@
 
 #![tactic(auto)]
 
-use fault::{Failing, Fault, Verdict, VerdictAnswer};
-use mask::{Mask, Shared};
-use run_outcome::{Outcome, ReplayAnswer};
-use run_pick::{Answer, Closed, Reply, Run};
-use run_ticket::{AskAnswer, Numbered, Ticket};
-use solo_replay::{Solo, SoloAnswer};
-use solo_search::SearchAnswer;
-use step::{Decision, Stepped};
+use fault::{Failing, Fault, Verdict};
+use mask::{Mask, Shared, Words};
+use refusal::Refusal;
+use run_outcome::Outcome;
+use run_pick::{Answer, Reply, Run};
+use run_ticket::{Asked, Numbered, Ticket};
+use solo_replay::Solo;
+use solo_search::Found;
+use std::fmt::Display;
+use std::{fmt, io};
+use step::Decision;
 
-// ---- lines
-
-fn say(text: &[u8]) {
-    let _written = io::write_all(1, text);
+// A law by its number and its words, with a plan for each member.
+#[derive(Clone, Copy)]
+pub struct Planned<'a> {
+    pub number: u64,
+    pub t: &'a [u64],
+    pub plans: &'a [u16],
+    pub ends: &'a [u64],
 }
 
-// A space, then the number.
-fn number(n: u64) {
-    say(b" ");
-    let _written = io::print_decimal(1, n);
-}
-
-fn say_number(text: &[u8], n: u64) {
-    say(text);
-    number(n);
-}
-
-fn end() {
-    say(b"\n");
-}
+// ---- numbers, a space before each
 
 // The low word of a mask, and the high word where it has a fact.
-fn facts(m: Mask) {
-    let w = mask::words(m);
-    number(w[0]);
-    if w[1] != 0 {
-        number(w[1]);
+#[derive(Clone, Copy)]
+struct Facts(Mask);
+
+impl Display for Facts {
+    fn fmt<W: fmt::Write>(&self, f: &mut fmt::Formatter<W>) -> fmt::Result {
+        let [low, high] = Words::from(self.0);
+        write!(f, " {low}")?;
+        if high != 0 {
+            write!(f, " {high}")?;
+        }
+        Ok(())
     }
 }
 
-fn say_facts(text: &[u8], m: Mask) {
-    say(text);
-    facts(m);
-}
+// The numbers of a slice.
+#[derive(Drop)]
+struct Numbers<'a, T>(&'a [T]);
 
-fn line(text: &[u8], n: u64) {
-    say_number(text, n);
-    end();
-}
-
-fn refused(k: u64) {
-    line(b" refused", k);
-}
-
-// The law's name, and what is asked of it.
-pub fn asked(law: u64, text: &[u8]) {
-    say(b"L");
-    let _written = io::print_decimal(1, law);
-    say(text);
-}
-
-fn words(xs: &[u64]) {
-    let mut i = 0;
-    while i < xs.len() {
-        number(xs[i]);
-        i += 1;
-    }
-}
-
-fn wide(x: u8) -> u64 {
-    x as u64
-}
-
-fn bytes(xs: &[u8]) {
-    let mut i = 0;
-    while i < xs.len() {
-        number(wide(xs[i]));
-        i += 1;
-    }
-}
-
-fn narrow(x: u16) -> u64 {
-    x as u64
-}
-
-fn shorts(xs: &[u16]) {
-    let mut i = 0;
-    while i < xs.len() {
-        number(narrow(xs[i]));
-        i += 1;
+impl<'a, T: Display> Display for Numbers<'a, T> {
+    fn fmt<W: fmt::Write>(&self, f: &mut fmt::Formatter<W>) -> fmt::Result {
+        for number in self.0 {
+            write!(f, " {number}")?;
+        }
+        Ok(())
     }
 }
 
 // ---- the operations
 
-pub fn show_check(law: u64, t: &[u64]) {
-    asked(law, b" task check:");
-    line(b"", task::check(t));
+fn refused(rt: &impl Print, e: Refusal) -> io::Result<()> {
+    println!(rt; " refused {}", u64::from(e))
 }
 
-fn show_decision(d: Decision) {
+pub fn show_check(rt: &impl Print, law: u64, t: &[u64]) -> io::Result<()> {
+    let number = match task::check(t) {
+        Ok(_) => 0,
+        Err(e) => u64::from(e),
+    };
+    println!(rt; "L{law} task check: {number}")
+}
+
+fn show_decision(rt: &impl Print, d: Decision) -> io::Result<()> {
     match d {
-        Decision::Go(next) => {
-            say_facts(b" go", next.0);
-            end();
-        }
-        Decision::Wait => say(b" wait\n"),
-        Decision::Collision(missing) => {
-            say_facts(b" collision, missing", missing);
-            end();
-        }
+        Decision::Go(next) => println!(rt; " go{}", Facts(next.0)),
+        Decision::Wait => println!(rt; " wait"),
+        Decision::Collision(missing) => println!(rt; " collision, missing{}", Facts(missing)),
     }
 }
 
 // A step at the shared copy of these two words.
-pub fn show_step(law: u64, t: &[u64], action: u16, low: u64, high: u64) {
-    let g = mask::of_words(low, high);
-    asked(law, b" step");
-    number(action as u64);
-    say_facts(b" at", g);
-    say(b":");
-    let s = step::step(t, action, Shared(g));
-    match s {
-        Stepped::Refused(k) => refused(k),
-        Stepped::Gives(d) => show_decision(d),
+pub fn show_step(
+    rt: &impl Print,
+    law: u64,
+    t: &[u64],
+    action: u16,
+    low: u64,
+    high: u64,
+) -> io::Result<()> {
+    let g = Mask::from([low, high]);
+    print!(rt; "L{law} step {action} at{}:", Facts(g))?;
+    match step::step(t, action, Shared(g)) {
+        Ok(d) => show_decision(rt, d),
+        Err(e) => refused(rt, e),
     }
 }
 
-fn show_solved(s: Solo) {
-    match s {
-        Solo::Solves => say(b" solves\n"),
-        Solo::Breaks(k) => line(b" breaks at", k as u64),
-        Solo::Short => say(b" short\n"),
+pub fn show_solo(rt: &impl Print, law: u64, t: &[u64], member: u8, plan: &[u16]) -> io::Result<()> {
+    print!(rt; "L{law} solo replay of member {member}:")?;
+    match solo_replay::solo_replay(t, member, plan) {
+        Ok(Solo::Solves) => println!(rt; " solves"),
+        Ok(Solo::Breaks(k)) => println!(rt; " breaks at {k}"),
+        Ok(Solo::Short) => println!(rt; " short"),
+        Err(e) => refused(rt, e),
     }
 }
 
-pub fn show_solo(law: u64, t: &[u64], member: u8, plan: &[u16]) {
-    asked(law, b" solo replay of member");
-    number(member as u64);
-    say(b":");
-    let r = solo_replay::solo_replay(t, member, plan);
-    match r {
-        SoloAnswer::Refused(k) => refused(k),
-        SoloAnswer::Gives(s) => show_solved(s),
-    }
-}
-
-fn show_found(count: usize, live: bool, marked: usize, table: &[u64], marks: &[u8]) {
-    number(count as u64);
-    if live {
-        say(b" live,")
-    } else {
-        say(b" dead,")
-    }
-    number(marked as u64);
-    say(b" marked;");
-    words(table);
-    say(b" marks");
-    bytes(marks);
-    end();
-}
-
-pub fn show_search(law: u64, t: &[u64], member: u8, table: &mut [u64], marks: &mut [u8]) {
-    asked(law, b" solo search of member");
-    number(member as u64);
-    say(b":");
-    let r = solo_search::solo_search(t, member, table, marks);
-    match r {
-        SearchAnswer::Refused(k) => refused(k),
-        SearchAnswer::Gives(count, live, marked) => show_found(count, live, marked, table, marks),
-    }
-}
-
-fn show_outcome(outcome: Outcome) {
-    match outcome {
-        Outcome::Success => say(b" success"),
-        Outcome::Failure(f) => match f {
-            Fault::Collision => say(b" collision"),
-            Fault::Deadlock => say(b" deadlock"),
-            Fault::Missed(j) => say_number(b" missed", j as u64),
-        },
-        Outcome::Open => say(b" open"),
-    }
-}
-
-fn show_replay(law: u64, t: &[u64], plans: &[u16], ends: &[u64], picks: &[u8]) {
-    asked(law, b" joint replay:");
-    let r = run_replay::joint_replay(t, plans, ends, picks);
-    match r {
-        ReplayAnswer::Refused(k) => refused(k),
-        ReplayAnswer::Gives(e) => {
-            let outcome = e.outcome;
-            show_outcome(outcome);
-            let g = e.shared;
-            say_facts(b", shared", g.0);
-            say_number(b", picks", e.picked as u64);
-            say_facts(b", missing", e.missing);
-            end();
+pub fn show_search(
+    rt: &impl Print,
+    law: u64,
+    t: &[u64],
+    member: u8,
+    table: &mut [u64],
+    marks: &mut [u8],
+) -> io::Result<()> {
+    print!(rt; "L{law} solo search of member {member}:")?;
+    match solo_search::solo_search(t, member, table, marks) {
+        Err(e) => refused(rt, e),
+        Ok(
+            Found {
+                count,
+                live,
+                marked,
+            },
+        ) => {
+            let word = if live { "live" } else { "dead" };
+            print!(rt; " {count} {word}, {marked} marked;")?;
+            println!(rt; "{} marks{}", Numbers(table), Numbers(marks))
         }
     }
 }
 
-fn show_answer_of(a: Answer) {
+fn show_outcome(rt: &impl Print, outcome: Outcome) -> io::Result<()> {
+    match outcome {
+        Outcome::Success => print!(rt; " success"),
+        Outcome::Failure(Fault::Collision) => print!(rt; " collision"),
+        Outcome::Failure(Fault::Deadlock) => print!(rt; " deadlock"),
+        Outcome::Failure(Fault::Missed(j)) => print!(rt; " missed {j}"),
+        Outcome::Open => print!(rt; " open"),
+    }
+}
+
+fn show_replay(rt: &impl Print, law: &Planned, picks: &[u8]) -> io::Result<()> {
+    print!(rt; "L{} joint replay:", law.number)?;
+    match run_replay::joint_replay(law.t, law.plans, law.ends, picks) {
+        Err(e) => refused(rt, e),
+        Ok(r) => {
+            show_outcome(rt, r.outcome)?;
+            print!(rt; ", shared{}, picks {}", Facts(r.shared.0), r.picked)?;
+            println!(rt; ", missing{}", Facts(r.missing))
+        }
+    }
+}
+
+fn show_reply(rt: &impl Print, a: Answer) -> io::Result<()> {
     match a {
-        Answer::Gives(r) => match r {
-            Reply::Go => say(b" go"),
-            Reply::Collision(missing) => say_facts(b" collision, missing", missing),
-        },
-        Answer::Refused(k) => say_number(b" refused", k),
+        Ok(Reply::Go) => print!(rt; " go"),
+        Ok(Reply::Collision(missing)) => print!(rt; " collision, missing{}", Facts(missing)),
+        Err(e) => print!(rt; " refused {}", u64::from(e)),
     }
 }
 
 // Of the places, those of two members.
-fn show_run(at: Numbered) {
+fn show_run(rt: &impl Print, at: Numbered) -> io::Result<()> {
     let run = at.run;
-    let g = run.shared;
-    say_facts(b" shared", g.0);
     let p = run.places;
-    say_number(b", places", p[0]);
-    number(p[1]);
-    let c = run.closed;
-    match c {
-        Closed::NotYet => {}
-        Closed::By(_) => say(b", collided"),
+    print!(rt; " shared{}, places {} {}", Facts(run.shared.0), p[0], p[1])?;
+    if run.closed.is_some() {
+        print!(rt; ", collided")?;
     }
-    line(b", changes", at.change as u64);
+    println!(rt; ", changes {}", at.change)
 }
 
-// The picks one after the other, each on the run as the last one left it.
-fn show_each(t: &[u64], plans: &[u16], ends: &[u64], first: Numbered, picks: &[u8]) -> Numbered {
-    let mut run = first;
-    let mut k = 0;
-    while k < picks.len() {
-        let p = run_dispatch::once(t, plans, ends, run, picks[k]);
-        let a = p.answer;
-        show_answer_of(a);
+// The dispatcher from the start, pick by pick, each on the run as the last one left it.
+fn show_picks(rt: &impl Print, law: &Planned, picks: &[u8]) -> io::Result<()> {
+    print!(rt; "L{} dispatcher:", law.number)?;
+    let mut run = run_dispatch::start(law.t).run;
+    for pick in picks {
+        let p = run_dispatch::once(law.t, law.plans, law.ends, run, *pick);
+        show_reply(rt, p.answer)?;
         run = p.run;
-        k += 1;
     }
-    run
-}
-
-// The dispatcher from the start, pick by pick.
-fn show_picks(law: u64, t: &[u64], plans: &[u16], ends: &[u64], picks: &[u8]) {
-    let s = run_dispatch::start(t);
-    let first = s.run;
-    asked(law, b" dispatcher:");
-    let last = show_each(t, plans, ends, first, picks);
-    say(b";");
-    show_run(last);
+    print!(rt; ";")?;
+    show_run(rt, run)
 }
 
 // The dispatcher from the start, the list of picks at once.
-fn show_list(law: u64, t: &[u64], plans: &[u16], ends: &[u64], picks: &[u8]) {
-    let s = run_dispatch::start(t);
-    let first = s.run;
-    asked(law, b" dispatcher, the list:");
-    let p = run_dispatch::play(t, plans, ends, first, picks);
-    if p.refusal != 0 {
-        refused(p.refusal);
-        return;
+fn show_list(rt: &impl Print, law: &Planned, picks: &[u8]) -> io::Result<()> {
+    print!(rt; "L{} dispatcher, the list:", law.number)?;
+    let p = run_dispatch::play(
+        law.t,
+        law.plans,
+        law.ends,
+        run_dispatch::start(law.t).run,
+        picks,
+    );
+    match p.answer {
+        Ok(()) => show_run(rt, p.run),
+        Err(e) => refused(rt, e),
     }
-    let played = p.run;
-    show_run(played);
 }
 
 // A commit with the ticket, and the run after it.
-fn show_commit(t: &[u64], plans: &[u16], ends: &[u64], run: Numbered, ticket: Ticket) -> Numbered {
-    let p = run_dispatch::commit_once(t, plans, ends, run, ticket);
-    let a = p.answer;
-    show_answer_of(a);
-    say(b";");
-    p.run
+fn show_commit(
+    rt: &impl Print,
+    law: &Planned,
+    run: Numbered,
+    ticket: Ticket,
+) -> io::Result<Numbered> {
+    let p = run_dispatch::commit_once(law.t, law.plans, law.ends, run, ticket);
+    show_reply(rt, p.answer)?;
+    print!(rt; ";")?;
+    Ok(p.run)
 }
 
 // An ask of the member, and the commit that it gives a ticket for.
-fn show_ask(t: &[u64], plans: &[u16], ends: &[u64], run: Numbered, member: u8) -> Numbered {
-    let a = run_ticket::ask(t, plans, ends, run, member);
-    match a {
-        AskAnswer::Refused(k) => {
-            say_number(b" ask refused", k);
-            say(b";");
-            run
+fn show_ask(rt: &impl Print, law: &Planned, run: Numbered, member: u8) -> io::Result<Numbered> {
+    match run_ticket::ask(law.t, law.plans, law.ends, run, member) {
+        Err(e) => {
+            print!(rt; " ask refused {};", u64::from(e))?;
+            Ok(run)
         }
-        AskAnswer::Gives(d, ticket) => {
-            match d {
-                Decision::Go(_) => say(b" ask go, commit"),
-                Decision::Wait => say(b" ask wait, commit"),
+        Ok(Asked { decision, ticket }) => {
+            match decision {
+                Decision::Go(_) => print!(rt; " ask go")?,
+                Decision::Wait => print!(rt; " ask wait")?,
                 Decision::Collision(missing) => {
-                    say_facts(b" ask collision, missing", missing);
-                    say(b", commit");
+                    print!(rt; " ask collision, missing{}", Facts(missing))?
                 }
             }
-            show_commit(t, plans, ends, run, ticket)
+            print!(rt; ", commit")?;
+            show_commit(rt, law, run, ticket)
         }
     }
-}
-
-// The members asked one after the other, each on the run as the last commit left it.
-fn show_asks(t: &[u64], plans: &[u16], ends: &[u64], first: Numbered, picks: &[u8]) -> Numbered {
-    let mut run = first;
-    let mut k = 0;
-    while k < picks.len() {
-        run = show_ask(t, plans, ends, run, picks[k]);
-        k += 1;
-    }
-    run
 }
 
 // The dispatcher from the start, each pick asked for and then committed; at the end member 0's
 // ticket of the start, which is stale as soon as a pick was done.
-fn show_asked(law: u64, t: &[u64], plans: &[u16], ends: &[u64], picks: &[u8]) {
-    let s = run_dispatch::start(t);
-    let first = s.run;
-    asked(law, b" dispatcher, asked:");
-    let last = show_asks(t, plans, ends, first, picks);
-    say(b" first ticket, commit");
+fn show_asked(rt: &impl Print, law: &Planned, picks: &[u8]) -> io::Result<()> {
+    print!(rt; "L{} dispatcher, asked:", law.number)?;
+    let mut run = run_dispatch::start(law.t).run;
+    for pick in picks {
+        run = show_ask(rt, law, run, *pick)?;
+    }
+    print!(rt; " first ticket, commit")?;
     let ticket = Ticket {
         member: 0,
         change: 0,
     };
-    let after = show_commit(t, plans, ends, last, ticket);
-    show_run(after);
+    let after = show_commit(rt, law, run, ticket)?;
+    show_run(rt, after)
 }
 
 // The same picks by joint replay and by the dispatcher.
-pub fn show_runs(law: u64, t: &[u64], plans: &[u16], ends: &[u64], picks: &[u8]) {
-    show_replay(law, t, plans, ends, picks);
-    show_picks(law, t, plans, ends, picks);
-    show_list(law, t, plans, ends, picks);
-    show_asked(law, t, plans, ends, picks);
+pub fn show_runs(rt: &impl Print, law: &Planned, picks: &[u8]) -> io::Result<()> {
+    show_replay(rt, law, picks)?;
+    show_picks(rt, law, picks)?;
+    show_list(rt, law, picks)?;
+    show_asked(rt, law, picks)
 }
 
 // Member 0's first step asked for and committed, where fact 0 holds, at a change number.
-pub fn show_change(law: u64, t: &[u64], plans: &[u16], ends: &[u64], change: u32) {
-    asked(law, b" at change number");
-    number(change as u64);
-    say(b":");
+pub fn show_change(rt: &impl Print, law: &Planned, change: u32) -> io::Result<()> {
+    print!(rt; "L{} at change number {change}:", law.number)?;
     let run = Run {
-        shared: Shared(mask::of_words(1, 0)),
+        shared: Shared(Mask::from([1, 0])),
         places: [0; 8],
-        closed: Closed::NotYet,
+        closed: None,
     };
-    let first = Numbered {
-        run: run,
-        change: change,
-    };
-    let after = show_ask(t, plans, ends, first, 0);
-    show_run(after);
+    let after = show_ask(rt, law, Numbered { run, change }, 0)?;
+    show_run(rt, after)
 }
 
 // A pick at the start.
-pub fn show_pick(law: u64, t: &[u64], plans: &[u16], ends: &[u64], member: u8) {
-    asked(law, b" pick of member");
-    number(member as u64);
-    say(b" at the start:");
-    let s = run_dispatch::start(t);
-    let p = run_ticket::pick(t, plans, ends, s.run, member);
-    let answer = p.answer;
-    match answer {
-        Answer::Refused(k) => refused(k),
-        Answer::Gives(r) => match r {
-            Reply::Collision(missing) => {
-                say_facts(b" collision, missing", missing);
-                end();
-            }
-            Reply::Go => {
-                let at = p.run;
-                let after = at.run;
-                let g = after.shared;
-                say_facts(b" go", g.0);
-                end();
-            }
-        },
+pub fn show_pick(rt: &impl Print, law: &Planned, member: u8) -> io::Result<()> {
+    print!(rt; "L{} pick of member {member} at the start:", law.number)?;
+    let p = run_ticket::pick(
+        law.t,
+        law.plans,
+        law.ends,
+        run_dispatch::start(law.t).run,
+        member,
+    );
+    match p.answer {
+        Ok(Reply::Go) => println!(rt; " go{}", Facts(p.run.run.shared.0)),
+        other => {
+            show_reply(rt, other)?;
+            println!(rt;)
+        }
     }
 }
 
 // The kind of a fault, its member, the picks done before it, what a collision lacks.
-fn show_failing(f: Failing) {
-    let fault = f.fault;
-    let done = f.picked as u64;
-    match fault {
-        Fault::Collision => {
-            say_number(b" collision", done);
-            say_facts(b", missing", f.missing);
-        }
-        Fault::Deadlock => say_number(b" deadlock", done),
-        Fault::Missed(i) => {
-            say_number(b" missed", i as u64);
-            say_number(b" after", done);
-        }
+fn show_failing(rt: &impl Print, f: Failing) -> io::Result<()> {
+    let done = f.picked;
+    match f.fault {
+        Fault::Collision => print!(rt; " collision {done}, missing{}", Facts(f.missing)),
+        Fault::Deadlock => print!(rt; " deadlock {done}"),
+        Fault::Missed(i) => print!(rt; " missed {i} after {done}"),
     }
 }
 
 // The kind and number of a verdict.
-fn show_given(v: Verdict) {
-    match v {
-        Verdict::Unsolvable(i) => say_number(b" unsolvable", i as u64),
-        Verdict::NotRobust(f) => show_failing(f),
-        Verdict::Robust(count) => say_number(b" robust", count as u64),
+fn show_answer(rt: &impl Print, answer: Result<Verdict, Refusal>) -> io::Result<()> {
+    match answer {
+        Ok(Verdict::Unsolvable(i)) => print!(rt; " unsolvable {i}"),
+        Ok(Verdict::NotRobust(f)) => show_failing(rt, f),
+        Ok(Verdict::Robust(count)) => print!(rt; " robust {count}"),
+        Err(e) => print!(rt; " refused {}", u64::from(e)),
     }
-}
-
-fn show_answer(v: VerdictAnswer) {
-    match v {
-        VerdictAnswer::Refused(k) => say_number(b" refused", k),
-        VerdictAnswer::Gives(g) => show_given(g),
-    }
-}
-
-fn show_conflict(plans: &[u16], ends: &[u64], picks: &[u8]) {
-    say(b"; plans");
-    shorts(plans);
-    say(b" ends");
-    words(ends);
-    say(b" picks");
-    bytes(picks);
-    end();
 }
 
 // The verdict with these two tables, and the first entries of the conflict slices.
-pub fn show_verdict(t: &[u64], local: &mut [u64], confs: &mut [u64]) {
+pub fn show_verdict(
+    rt: &impl Print,
+    t: &[u64],
+    local: &mut [u64],
+    confs: &mut [u64],
+) -> io::Result<()> {
     let mut marks = [7; 48];
     let mut trail = [7; 96];
-    let mut plans = [7; 96];
+    let mut plans = [7u16; 96];
     let mut ends = [7; 8];
     let mut picks = [7; 48];
-    say(b" verdict:");
+    print!(rt; " verdict:")?;
     let v = verdict::verdict(
         t, local, &mut marks, confs, &mut trail, &mut plans, &mut ends, &mut picks,
     );
-    show_answer(v);
-    show_conflict(&plans[0..6], &ends[0..2], &picks[0..4]);
+    show_answer(rt, v)?;
+    print!(rt;
+        "; plans{} ends{}",
+        Numbers(&plans[0..6]),
+        Numbers(&ends[0..2])
+    )?;
+    println!(rt; " picks{}", Numbers(&picks[0..4]))
 }

@@ -5,7 +5,7 @@ use native.Mathlib.Omega.{arith}
 use mathlib.Core.List.{List}
 use Rattle.semantics.specs.Task.{check, members}
 use Rattle.theory.proofs.Accepted.{accepted}
-use Rattle.program.proofs.Laws.{local_copies, configuration_copies, most_configurations, rows-most}
+use Rattle.program.proofs.Laws.{configuration_copies, most_configurations}
 use Rattle.program.proofs.Laws.{configurations-most, front_length, lends}
 use Rattle.program.proofs.of_task.Goals as goal
 
@@ -20,67 +20,36 @@ module _ (t : List ℕ) (ok : check t ≡ 0) (n : ℕ) (e : n ≡ members t) whe
   most = configurations-most n some
 
 pub nonzero_div-rows : goal.nonzero_div-rows
-nonzero_div-rows c = omega (arith, some c.args.t.now c.requires.t_value c.members-n.result c.members-n.ensures)
-
-pub overflow_mul-rows : goal.overflow_mul-rows
-overflow_mul-rows c = omega (arith, rows-most c.members-n.result)
+nonzero_div-rows c = omega (arith, some c.args.t.now.words.now c.args.t.now.accepted c.members-n.result c.members-n.ensures)
 
 pub overflow_add-most : goal.overflow_add-most
-overflow_add-most c = omega (arith, few c.args.t.now c.requires.t_value c.members-n.result c.members-n.ensures)
-
-pub slice_bounds-marks-end : goal.slice_bounds-marks-end
-slice_bounds-marks-end c = omega (arith, rows-most c.members-n.result)
-
-pub slice_bounds-judge-end-2 : goal.slice_bounds-judge-end-2
-slice_bounds-judge-end-2 c =
-    front_length (c.members-n.result * (local_copies / c.members-n.result)) local_copies (rows-most c.members-n.result)
-
-pub overflow_mul-trail : goal.overflow_mul-trail
-overflow_mul-trail c = omega (arith, most c.args.t.now c.requires.t_value c.members-n.result c.members-n.ensures)
+overflow_add-most c = omega (arith, few c.args.t.now.words.now c.args.t.now.accepted c.members-n.result c.members-n.ensures)
 
 pub slice_bounds-trail-end : goal.slice_bounds-trail-end
-slice_bounds-trail-end c = omega (arith, most c.args.t.now c.requires.t_value c.members-n.result c.members-n.ensures)
+slice_bounds-trail-end c = omega (arith, most c.args.t.now.words.now c.args.t.now.accepted c.members-n.result c.members-n.ensures)
 
 pub slice_bounds-judge-end-4 : goal.slice_bounds-judge-end-4
 slice_bounds-judge-end-4 c =
-    let m = most c.args.t.now c.requires.t_value c.members-n.result c.members-n.ensures in
+    let m = most c.args.t.now.words.now c.args.t.now.accepted c.members-n.result c.members-n.ensures in
     front_length (2 * (configuration_copies / (c.members-n.result + 1))) (2 * most_configurations) (omega (arith, m))
 
-pub overflow_add-plans : goal.overflow_add-plans
-overflow_add-plans c =
-    let m = most c.args.t.now c.requires.t_value c.members-n.result c.members-n.ensures in
-    omega (arith, rows-most c.members-n.result, m)
-
-pub slice_bounds-plans-end : goal.slice_bounds-plans-end
-slice_bounds-plans-end c =
-    let m = most c.args.t.now c.requires.t_value c.members-n.result c.members-n.ensures in
-    omega (arith, rows-most c.members-n.result, m)
-
-pub slice_bounds-judge-end-5 : goal.slice_bounds-judge-end-5
-slice_bounds-judge-end-5 c =
-    let m = most c.args.t.now c.requires.t_value c.members-n.result c.members-n.ensures in
-    front_length
-    (configuration_copies / (c.members-n.result + 1) + c.members-n.result * (local_copies / c.members-n.result))
-    (most_configurations + local_copies) (omega (arith, m, rows-most c.members-n.result))
-
 pub slice_bounds-ends-end : goal.slice_bounds-ends-end
-slice_bounds-ends-end c = omega (arith, few c.args.t.now c.requires.t_value c.members-n.result c.members-n.ensures)
+slice_bounds-ends-end c = omega (arith, few c.args.t.now.words.now c.args.t.now.accepted c.members-n.result c.members-n.ensures)
 
 pub slice_bounds-judge-end-6 : goal.slice_bounds-judge-end-6
 slice_bounds-judge-end-6 c =
-    front_length c.members-n.result 8 (few c.args.t.now c.requires.t_value c.members-n.result c.members-n.ensures)
+    front_length c.members-n.result 8 (few c.args.t.now.words.now c.args.t.now.accepted c.members-n.result c.members-n.ensures)
 
 pub slice_bounds-picks-end : goal.slice_bounds-picks-end
-slice_bounds-picks-end c = omega (arith, most c.args.t.now c.requires.t_value c.members-n.result c.members-n.ensures)
+slice_bounds-picks-end c = omega (arith, most c.args.t.now.words.now c.args.t.now.accepted c.members-n.result c.members-n.ensures)
 
 pub slice_bounds-judge-end-7 : goal.slice_bounds-judge-end-7
 slice_bounds-judge-end-7 c =
     front_length (configuration_copies / (c.members-n.result + 1)) most_configurations
-    (most c.args.t.now c.requires.t_value c.members-n.result c.members-n.ensures)
+    (most c.args.t.now.words.now c.args.t.now.accepted c.members-n.result c.members-n.ensures)
 
 pub judge-requires : goal.judge-requires
 judge-requires c = record {
-  t_value = c.requires.t_value;
-  picks_value = lends c.args.t.now c.requires.t_value c.members-n.result c.members-n.ensures;
-  most_bytes_in_bounds = c.requires.most_bytes_in_bounds;
+  picks_value = lends c.args.t.now.words.now c.args.t.now.accepted c.members-n.result c.members-n.ensures;
+  most_bytes_in_bounds = c.requires;
 }

@@ -14,43 +14,43 @@ use Rattle.program.proofs.of_text.Goals as goal
 long : (ws : List ℕ) → ws ≡ replicate most_words 0 → length ws ≡ most_words
 long ws e = ap length e ∙ length-replicate {A = ℕ} most_words 0
 
-pub overflow_mul-n : goal.overflow_mul-n
-overflow_mul-n c =
+pub overflow_mul-t : goal.overflow_mul-t
+overflow_mul-t c =
     let e = long c.args.words.now c.requires.words_value in
     let w = words-of c.args.text.now c.args.words.now c.read.new.words (omega (arith, e)) c.read.result
-    c.read.ensures c.in-Gives.n c.in-Gives.is in
+    c.read.ensures c.in-Ok.n c.in-Ok.is in
     omega (arith, w.room, c.read.auto.words, e)
 
-pub slice_bounds-of_task-end : goal.slice_bounds-of_task-end
-slice_bounds-of_task-end c =
+pub slice_bounds-t-end : goal.slice_bounds-t-end
+slice_bounds-t-end c =
     let e = long c.args.words.now c.requires.words_value in
     let w = words-of c.args.text.now c.args.words.now c.read.new.words (omega (arith, e)) c.read.result
-    c.read.ensures c.in-Gives.n c.in-Gives.is in
+    c.read.ensures c.in-Ok.n c.in-Ok.is in
     w.room
 
-pub slice_bounds-of_task-end-in-Gives : goal.slice_bounds-of_task-end-in-Gives
-slice_bounds-of_task-end-in-Gives c =
+pub slice_bounds-t-end-in-Ok : goal.slice_bounds-t-end-in-Ok
+slice_bounds-t-end-in-Ok c =
     let e = long c.args.words.now c.requires.words_value in
     let w = words-of c.args.text.now c.args.words.now c.read.new.words (omega (arith, e)) c.read.result
-    c.read.ensures c.in-Gives.n c.in-Gives.is in
-    sym (length-take-le (row_width * c.in-Gives.n) c.read.new.words w.room)
+    c.read.ensures c.in-Ok.n c.in-Ok.is in
+    sym (length-take-le (row_width * c.in-Ok.n) c.read.new.words w.room)
 
-pub of_task-requires : goal.of_task-requires
-of_task-requires c =
+pub invariant_of-t : goal.invariant_of-t
+invariant_of-t c =
     let e = long c.args.words.now c.requires.words_value in
     let w = words-of c.args.text.now c.args.words.now c.read.new.words (omega (arith, e)) c.read.result
-    c.read.ensures c.in-Gives.n c.in-Gives.is in
-    record { t_value = ap check w.words-read ∙ w.task; most_bytes_in_bounds = c.requires.most_bytes_in_bounds }
+    c.read.ensures c.in-Ok.n c.in-Ok.is in
+    record { accepted = ap check w.words-read ∙ w.task }
 
-pub returns-in-Gives : goal.returns-in-Gives
-returns-in-Gives c =
+pub returns-in-Ok : goal.returns-in-Ok
+returns-in-Ok c =
     let e = long c.args.words.now c.requires.words_value in
     let w = words-of c.args.text.now c.args.words.now c.read.new.words (omega (arith, e)) c.read.result
-    c.read.ensures c.in-Gives.n c.in-Gives.is in
+    c.read.ensures c.in-Ok.n c.in-Ok.is in
     prints_task c.args.text.now c.args.words.now c.read.new.words c.requires.words_value c.read.result
-    c.read.ensures c.in-Gives.n w c.of_task.ensures
+    c.read.ensures c.in-Ok.n w c.of_task.ensures
 
-pub returns-in-Refused : goal.returns-in-Refused
-returns-in-Refused c =
+pub returns-in-Err : goal.returns-in-Err
+returns-in-Err c =
     prints_refusal c.args.text.now c.args.words.now c.read.new.words c.requires.words_value c.read.result
-    c.read.ensures c.in-Refused.k c.in-Refused.is c.put_refusal.ensures
+    c.read.ensures c.in-Err.e c.in-Err.is c.put_refusal.ensures

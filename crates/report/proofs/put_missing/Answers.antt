@@ -25,8 +25,5 @@ loop-f-preserved c =
     stage-onward c.loop-f.invariant c.loop-f.f (sym (up_to_at most_facts c.loop-f.f (omega arith)))
     (omega (arith, up_to_length most_facts)) _ _ c.put_fact-next.ensures c.put_fact-next.auto.out
 
-pub shape_of-out : goal.shape_of-out
-shape_of-out c = c.loop-f.invariant.kept
-
 pub returns : goal.returns
 returns c = missing-end (number c.args.m) c.loop-f.invariant (omega arith)

@@ -15,21 +15,17 @@ pub put_plan-next-requires : goal.put_plan-next-requires
 put_plan-next-requires c =
     record {
       i_lt_n = omega arith;
-      inside = c.requires.inside;
       room =
-          stage-room c.loop-i.invariant c.loop-i.i (sym (up_to_at c.args.n c.loop-i.i (omega arith)))
-          (omega (arith, up_to_length c.args.n));
+          stage-room c.loop-i.invariant c.loop-i.i (sym (up_to_at c.args.p.now.members c.loop-i.i (omega arith)))
+          (omega (arith, up_to_length c.args.p.now.members));
     }
 
 pub loop-i-preserved : goal.loop-i-preserved
 loop-i-preserved c =
-    let n = c.args.n in
+    let n = c.args.p.now.members in
     stage-onward c.loop-i.invariant c.loop-i.i (sym (up_to_at n c.loop-i.i (omega arith)))
     (omega (arith, up_to_length n)) _ _ c.put_plan-next.ensures c.put_plan-next.auto.out
 
-pub shape_of-out : goal.shape_of-out
-shape_of-out c = c.loop-i.invariant.kept
-
 pub returns : goal.returns
 unfolding plans_lines
-returns c = stage-end c.loop-i.invariant (omega (arith, up_to_length c.args.n))
+returns c = stage-end c.loop-i.invariant (omega (arith, up_to_length c.args.p.now.members))

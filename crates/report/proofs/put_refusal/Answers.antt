@@ -9,9 +9,10 @@ pub put_header-at-requires : goal.put_header-at-requires
 unfolding word numbers_from
 put_header-at-requires c = omega arith
 
-pub put_refused-requires : goal.put_refused-requires
+pub put_short-requires-clause-room : goal.put_short-requires-clause-room
 unfolding word numbers_from
-put_refused-requires c = omega arith
+put_short-requires-clause-room c = omega arith
 
 pub returns : goal.returns
-returns c = laid-append c.put_header-at.ensures c.put_refused.ensures
+unfolding word numbers_from
+returns c = laid-append c.put_header-at.ensures (rw c.from.ensures at c.put_short.ensures.laid)
