@@ -9,19 +9,11 @@ import re
 import sys
 import textwrap
 
-
-def files(root, end, part):
-    for folder, dirs, names in os.walk(os.path.join(root, "crates")):
-        dirs[:] = sorted(d for d in dirs if d not in ("out", "target"))
-        for n in sorted(names):
-            if n.endswith(end) and f"/{part}/" in folder + "/":
-                path = os.path.join(folder, n)
-                yield os.path.relpath(path, root).split(os.sep)[1], path
+from sources import files
 
 
-def read(path):
-    with open(path, encoding="utf-8") as f:
-        return f.read()
+def crate_of(path):
+    return path.split(os.sep)[1]
 
 
 def squeezed(text):
@@ -31,8 +23,8 @@ def squeezed(text):
 def code(root):
     """(crate, name) of each public function, type and constant: its head, or its whole text"""
     found = {}
-    for crate, path in files(root, ".rt", "src"):
-        text = re.sub(r"^\s*//[^\n]*\n", "", read(path), flags=re.M)
+    for path, text in files(root, ".rt", "src"):
+        crate, text = crate_of(path), re.sub(r"^\s*//[^\n]*\n", "", text, flags=re.M)
         owner = None
         for m in re.finditer(
             r"^(?P<impl>impl[^\n{]*)|^(?P<i>[ ]*)pub (?:extern \"C\" )?(?P<kind>fn|struct|enum|const|type|trait) (?P<name>\w+)"
@@ -59,11 +51,11 @@ def code(root):
 def statements(root, part):
     """(crate, file, name) of each definition or statement: its text"""
     found = {}
-    for crate, path in files(root, ".antt", part):
+    for path, text in files(root, ".antt", part):
         if os.path.basename(path) in ("Answers.antt", "Invariants.antt", "Lib.antt"):
             continue
         where = os.path.basename(path)[:-5]
-        text = re.sub(r"^\s*--[^\n]*\n", "", read(path), flags=re.M)
+        crate, text = crate_of(path), re.sub(r"^\s*--[^\n]*\n", "", text, flags=re.M)
         start = re.compile(r"^( *)((?:abbrev |unfoldable )?pub (?:record |data |ruleset )?)([^\s:({]+)", re.M)
         for m in start.finditer(text):
             indent = len(m[1])

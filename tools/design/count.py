@@ -5,23 +5,13 @@ usage: tools/design/count.py [--list] [ROOT]     ROOT is the checkout (.); --lis
 """
 
 import collections
-import os
 import re
 import sys
 
-CRATE = re.compile(r"crates/(\w+)/")
+from sources import files
+
 FN = re.compile(r"^(?P<indent>[ \t]*)(?:pub(?:\(crate\))? )?(?:extern \"C\" )?fn (?P<name>\w+)", re.M)
 PIECES = re.compile(r"\b(u8|u16|u32|u64|usize|i64)\b|\b\d+\b|\w+")
-
-
-def files(root, ends, part):
-    for folder, dirs, names in os.walk(os.path.join(root, "crates")):
-        dirs[:] = sorted(d for d in dirs if d not in ("out", "target"))
-        for n in sorted(names):
-            if n.endswith(ends) and f"/{part}" in folder + "/":
-                path = os.path.join(folder, n)
-                with open(path, encoding="utf-8") as f:
-                    yield os.path.relpath(path, root), f.read()
 
 
 def bare(text):
@@ -139,7 +129,7 @@ def main():
     arguments = [a for a in sys.argv[1:] if a != "--list"]
     listed = "--list" in sys.argv[1:]
     root = arguments[0] if arguments else "."
-    sources = [(p, bare(t)) for p, t in files(root, ".rt", "src/")]
+    sources = [(p, bare(t)) for p, t in files(root, ".rt", "src")]
 
     def show(what, places):
         places = list(places)
@@ -172,7 +162,7 @@ def main():
     show("6  functions of a slice with a length or a count beside it", each(lengths_beside))
     show("7  function pointers and dyn", each(tables))
     answers = lines = 0
-    for path, text in files(root, ".antt", "proofs/"):
+    for path, text in files(root, ".antt", "proofs"):
         answers += len(re.findall(r"^pub [^\n]* : goal\.", text, re.M)) if path.endswith("Answers.antt") else 0
         lines += text.count("\n")
     print(f"{answers:5d}  8  answers in Answers.antt, of {lines} lines of proofs/")
