@@ -5,9 +5,14 @@
 ghost use Rattle.std.specs.Prelude.{◌≡◌, ◌≤◌, length, replicate};
 ghost use Rattle.semantics.specs.Verdict.{lent_of};
 ghost use Rattle.text.specs.Post.{most_words};
+ghost use Rattle.fault.specs.Value.{verdict_of};
+ghost use Rattle.refusal.specs.Number.{answered};
+ghost use Rattle.report.specs.File.{numbered};
 ghost use Rattle.program.specs.Program.{lent_for, reported, printed, AtFront};
 ghost use Rattle.program.specs.Inner.Most.{most_bytes};
 
+use fault::Verdict;
+use refusal::Refusal;
 use task::Task;
 
 const LOCAL_WORDS: usize = 4096;
@@ -35,6 +40,16 @@ pub const MOST_TEXT: usize = text::MOST_RECORDS * (text::ROW * 20 + text::ROW - 
 pub const MOST_BYTES: usize = 16
     + 33 * (1 + 128 + 8 + (MOST_CONFIGURATIONS + LOCAL_COPIES) + MOST_CONFIGURATIONS);
 
+// The verdict's answer, with the refusal's number for the refusal.
+fn told(answer: Result<Verdict, Refusal>) -> Result<Verdict, u64>
+    ensures { numbered verdict_of result ≡ answered verdict_of answer }
+{
+    match answer {
+        Ok(v) => Ok(v),
+        Err(e) => Err(u64::from(e)),
+    }
+}
+
 // The file of the verdict on an accepted task, with zero slices of the program's lengths.
 fn judge(
     t: &Task,
@@ -54,7 +69,8 @@ fn judge(
 {
     let n = t.members();
     let answer = verdict::verdict(t.words, local, marks, confs, trail, plans, ends, picks);
-    report::put_file(out, answer, n, plans, ends, picks)
+    let numbers = told(answer);
+    report::put_file(out, numbers, n, plans, ends, picks)
 }
 
 // The same, with slices of its own.
@@ -99,7 +115,7 @@ fn of_text(text: &[u8], words: &mut [u64], out: &mut [u8]) -> usize
             };
             of_task(&t, out)
         }
-        Err(e) => report::put_refusal(out, e),
+        Err(e) => report::put_refusal(out, u64::from(e)),
     }
 }
 

@@ -10,19 +10,16 @@ ghost use Rattle.theory.proofs.Laid.{Laid};
 ghost use Rattle.semantics.specs.Text.{digits};
 ghost use Rattle.semantics.specs.Base.{gives};
 ghost use Rattle.semantics.specs.Verdict.{not_robust, conflict_picks};
-ghost use Rattle.refusal.specs.Number.{answered};
-ghost use Rattle.refusal.specs.Number as refusals;
 ghost use Rattle.mask.specs.Number.{number};
 ghost use Rattle.fault.specs.Value.{fault_of, failing_of, verdict_of};
 ghost use Rattle.report.specs.File.{word, header, line, lines, plan_lines, plans_lines};
-ghost use Rattle.report.specs.File.{conflict_lines, fault_line, missing_lines, body, file};
+ghost use Rattle.report.specs.File.{conflict_lines, fault_line, missing_lines, numbered, body, file};
 ghost use Rattle.report.specs.Inner.Put.{most_line, most_file, most_facts, Room, Inside};
 ghost use Rattle.report.specs.Inner.Put.{Holds, missing_line};
 ghost use Rattle.report.specs.Inner.Slices.{HeldIn, conflict_in, body_in};
 
 use fault::{Failing, Fault, Verdict};
 use mask::Mask;
-use refusal::Refusal;
 
 // The plans of a task's members: the actions of all, and where those of each end.
 #[derive(Clone, Copy)]
@@ -269,45 +266,45 @@ fn put_verdict(out: &mut [u8], at: usize, v: Verdict, s: &Slices) -> usize
     }
 }
 
-// The lines after the first.
-fn put_body(out: &mut [u8], at: usize, answer: Result<Verdict, Refusal>, s: &Slices) -> usize
-    requires holds { HeldIn (answered verdict_of answer) s.now }
+// The lines after the first. Here and below a refusal is its number, whatever it is.
+fn put_body(out: &mut [u8], at: usize, answer: Result<Verdict, u64>, s: &Slices) -> usize
+    requires holds { HeldIn (numbered verdict_of answer) s.now }
     requires room { Room out.old (at + most_line)
-        (conflict_in (answered verdict_of answer) s.now) }
-    ensures { Laid (body_in (answered verdict_of answer) s.now)
+        (conflict_in (numbered verdict_of answer) s.now) }
+    ensures { Laid (body_in (numbered verdict_of answer) s.now)
         out.old at out.new result }
 {
     match answer {
-        Err(e) => put_short(out, at, b"refused", u64::from(e)),
+        Err(k) => put_short(out, at, b"refused", k),
         Ok(v) => put_verdict(out, at, v, s),
     }
 }
 
 // The file of a refusal, at the slice's front; the rest is as it was.
-pub fn put_refusal(out: &mut [u8], refusal: Refusal) -> usize
+pub fn put_refusal(out: &mut [u8], refusal: u64) -> usize
     requires { most_file 1 ≤ length out.old }
-    ensures { Laid (header ++ line (word "refused") (refusals.number refusal)) out.old 0
+    ensures { Laid (header ++ line (word "refused") refusal) out.old 0
         out.new result }
 {
     let at = put_header(out);
-    put_short(out, at, b"refused", u64::from(refusal))
+    put_short(out, at, b"refused", refusal)
 }
 
 // The file of a verdict's answer on a task of n members, at the slice's front; the rest is as it
 // was.
 pub fn put_file(
     out: &mut [u8],
-    answer: Result<Verdict, Refusal>,
+    answer: Result<Verdict, u64>,
     n: usize,
     plans: &[u16],
     ends: &[u64],
     picks: &[u8],
 ) -> usize
-    requires holds { Holds (answered verdict_of answer) n plans.now ends.now picks.now }
+    requires holds { Holds (numbered verdict_of answer) n plans.now ends.now picks.now }
     requires picks_in_bounds { most_file (1 + most_facts + n + length plans.now + length picks.now)
         ≤ length out.old }
     ensures { Laid
-        (file (answered verdict_of answer) n plans.now ends.now picks.now)
+        (file (numbered verdict_of answer) n plans.now ends.now picks.now)
         out.old 0 out.new result }
 {
     let next = put_header(out);

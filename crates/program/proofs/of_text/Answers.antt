@@ -53,4 +53,4 @@ returns-in-Ok c =
 pub returns-in-Err : goal.returns-in-Err
 returns-in-Err c =
     prints_refusal c.args.text.now c.args.words.now c.read.new.words c.requires.words_value c.read.result
-    c.read.ensures c.in-Err.e c.in-Err.is c.put_refusal.ensures
+    c.read.ensures c.in-Err.e c.in-Err.is (rw c.from.ensures at c.put_refusal.ensures)

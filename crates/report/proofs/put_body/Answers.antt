@@ -5,4 +5,4 @@ use Rattle.report.proofs.put_body.Goals as goal
 
 pub returns-in-Err : goal.returns-in-Err
 unfolding word numbers_from
-returns-in-Err c = rw c.in-Err.is (rw c.from.ensures at c.put_short.ensures.laid)
+returns-in-Err c = rw c.in-Err.is c.put_short.ensures.laid

@@ -1,10 +1,9 @@
 -- `report::put_file` meets its contract. Assumes nothing.
 use native.Mathlib.Omega.{arith}
 use Rattle.theory.proofs.Laid.{laid-append}
-use Rattle.refusal.specs.Number.{answered}
 use Rattle.fault.specs.Value.{verdict_of}
 use Rattle.semantics.specs.Base.{numbers_from}
-use Rattle.report.specs.File.{word}
+use Rattle.report.specs.File.{word, numbered}
 use Rattle.report.proofs.Laws.{conflict-most}
 use Rattle.report.proofs.put_file.Goals as goal
 
@@ -20,7 +19,7 @@ put_body-requires c =
       room =
           omega (
             arith,
-            conflict-most (answered verdict_of c.args.answer) c.args.n c.args.plans.now c.args.ends.now c.args.picks.now
+            conflict-most (numbered verdict_of c.args.answer) c.args.n c.args.plans.now c.args.ends.now c.args.picks.now
                 c.requires.holds (omega arith) (λ i. omega (arith, c.type_inv.plans i))
                 (λ i. omega (arith, c.type_inv.picks i)),
           );

@@ -15,4 +15,4 @@ put_short-requires-clause-room c = omega arith
 
 pub returns : goal.returns
 unfolding word numbers_from
-returns c = laid-append c.put_header-at.ensures (rw c.from.ensures at c.put_short.ensures.laid)
+returns c = laid-append c.put_header-at.ensures c.put_short.ensures.laid
