@@ -26,7 +26,7 @@ ghost use Rattle.capi.specs.Play.{RunCall, StartCall, PlayCall};
 use capi_numbers::tell;
 use mask::Shared;
 use pddl_write::Lengths;
-use refusal::Refusal;
+use refusal::{Refusal, numbered};
 use run_ticket::Ticket;
 use solo_search::Found;
 
@@ -62,7 +62,7 @@ pub extern "C" fn lawcheck_step(t: &[u64], action: u16, shared: &[u64], out: &mu
         return short();
     }
     let answer = step::step(t, action, Shared(mask::load(shared, 0)));
-    tell(answer.map(capi_numbers::decision_numbers), out)
+    tell(numbered(answer.map(capi_numbers::decision_numbers)), out)
 }
 
 // ---- solo replay
@@ -77,7 +77,7 @@ pub extern "C" fn lawcheck_solo_replay(t: &[u64], member: u8, plan: &[u16], out:
         return short();
     }
     let answer = solo_replay::solo_replay(t, member, plan);
-    tell(answer.map(capi_numbers::solo_numbers), out)
+    tell(numbered(answer.map(capi_numbers::solo_numbers)), out)
 }
 
 // ---- solo search
@@ -113,7 +113,7 @@ pub extern "C" fn lawcheck_solo_search(
         return short();
     }
     let answer = solo_search::solo_search(t, member, table, marks);
-    tell(answer.map(found_numbers), out)
+    tell(numbered(answer.map(found_numbers)), out)
 }
 
 // ---- joint replay
@@ -135,7 +135,7 @@ pub extern "C" fn lawcheck_joint_replay(
         return short();
     }
     let answer = run_replay::joint_replay(t, plans, ends, picks);
-    tell(answer.map(capi_numbers::replay_numbers), out)
+    tell(numbered(answer.map(capi_numbers::replay_numbers)), out)
 }
 
 // ---- a pick, an ask and a commit on a run: the dispatcher is lent the run that the words hold
@@ -158,7 +158,7 @@ pub extern "C" fn lawcheck_pick(
         return short();
     }
     let p = run_dispatch::once(t, plans, ends, capi_run::run_of(run), member);
-    capi_run::tell_dispatched(run, p, out)
+    capi_run::tell_dispatched(run, numbered(p.answer), p.run, out)
 }
 
 #[unsafe(no_mangle)]
@@ -180,7 +180,7 @@ pub extern "C" fn lawcheck_ask(
         return short();
     }
     let a = run_ticket::ask(t, plans, ends, capi_run::run_of(run), member);
-    capi_run::tell_asked(a, out)
+    capi_run::tell_asked(numbered(a), out)
 }
 
 #[unsafe(no_mangle)]
@@ -203,7 +203,7 @@ pub extern "C" fn lawcheck_commit(
     }
     let ticket = Ticket { member, change };
     let p = run_dispatch::commit_once(t, plans, ends, capi_run::run_of(run), ticket);
-    capi_run::tell_dispatched(run, p, out)
+    capi_run::tell_dispatched(run, numbered(p.answer), p.run, out)
 }
 
 // ---- the start of a run, and a list of picks on it
@@ -276,7 +276,7 @@ pub extern "C" fn lawcheck_verdict(
         return short();
     }
     let answer = verdict::verdict(t, local, marks, confs, trail, plans, ends, picks);
-    tell(answer.map(capi_numbers::verdict_numbers), out)
+    tell(numbered(answer.map(capi_numbers::verdict_numbers)), out)
 }
 
 // ---- the text reader
@@ -299,7 +299,7 @@ pub extern "C" fn lawcheck_read(text: &[u8], words: &mut [u64], out: &mut [u64])
     if out.len() < 1 {
         return short();
     }
-    tell(text::read(text, words).map(record_numbers), out)
+    tell(numbered(text::read(text, words).map(record_numbers)), out)
 }
 
 // ---- the reader and the writer of PDDL
@@ -321,7 +321,10 @@ pub extern "C" fn lawcheck_pddl_read(
     if out.len() < 1 {
         return short();
     }
-    tell(pddl::read(text, waits, words).map(record_numbers), out)
+    tell(
+        numbered(pddl::read(text, waits, words).map(record_numbers)),
+        out,
+    )
 }
 
 fn length_numbers(l: Lengths) -> [u64; 2]
@@ -350,5 +353,8 @@ pub extern "C" fn lawcheck_pddl_write(
     if out.len() < 2 {
         return short();
     }
-    tell(pddl_write::write(t, text, waits).map(length_numbers), out)
+    tell(
+        numbered(pddl_write::write(t, text, waits).map(length_numbers)),
+        out,
+    )
 }

@@ -5,7 +5,7 @@
 
 ghost use Rattle.std.specs.Prelude.{◌≡◌, ◌≤◌, length};
 ghost use Rattle.semantics.specs.Base.{front};
-ghost use Rattle.refusal.specs.Number.{answered};
+ghost use Rattle.refusal.specs.Number.{numbered};
 ghost use Rattle.mask.specs.Number.{number};
 ghost use Rattle.step.specs.Value.{decision_of};
 ghost use Rattle.solo_replay.specs.Value.{solo_of};
@@ -16,7 +16,6 @@ ghost use Rattle.capi_numbers.specs.Numbers as numbers;
 
 use fault::{Failing, Fault, Verdict};
 use mask::Words;
-use refusal::Refusal;
 use run_outcome::{Outcome, Replay};
 use solo_replay::Solo;
 use step::Decision;
@@ -95,16 +94,16 @@ pub fn verdict_numbers(v: Verdict) -> [u64; 5]
 
 // What a call returns, and `out` after it: a refusal's number, and `out` as it was; or 0, and the
 // answer's numbers at the front of `out`.
-pub fn tell<const N: usize>(answer: Result<[u64; N], Refusal>, out: &mut [u64]) -> u64
+pub fn tell<const N: usize>(answer: Result<[u64; N], u64>, out: &mut [u64]) -> u64
     requires { N ≤ length out.old }
     ensures { call result out.new
-        ≡ told (λ ns. ns) out.old (answered (λ ns. ns) answer.entry) }
+        ≡ told (λ ns. ns) out.old (numbered (λ ns. ns) answer.entry) }
 {
     match answer {
         Ok(numbers) => {
             put(out, &numbers);
             0
         }
-        Err(e) => u64::from(e),
+        Err(k) => k,
     }
 }

@@ -3,9 +3,9 @@
 #![tactic(auto)]
 
 ghost use Rattle.std.specs.Prelude.{◌≡◌, false, ◌≤◌, length};
-ghost use Rattle.run_pick.specs.Value.{closed_of, run_of, reply_of};
-ghost use Rattle.step.specs.Value.{decision_of};
-ghost use Rattle.run_ticket.specs.Value.{numbered_of, ticket_of, asked_of, dispatched_of};
+ghost use Rattle.refusal.specs.Number.{numbered};
+ghost use Rattle.run_pick.specs.Value.{closed_of, run_of, reply_of, reply_with};
+ghost use Rattle.run_ticket.specs.Value.{numbered_of, ask_of};
 ghost use Rattle.capi_numbers.specs.Call.{call, told};
 ghost use Rattle.capi_numbers.specs.Numbers as numbers;
 ghost use Rattle.capi_run.specs.Runs.{run_words, no_run, closed_in, closed_word, open_in, run_in};
@@ -13,9 +13,8 @@ ghost use Rattle.capi_run.specs.Runs.{words_of_run, after};
 
 use fault::Fault;
 use mask::{Mask, Shared, Words};
-use refusal::Refusal;
 use run_pick::{Reply, Run};
-use run_ticket::{Asked, Dispatched, Numbered};
+use run_ticket::{Asked, Numbered};
 
 // ---- the words
 
@@ -105,24 +104,28 @@ fn reply_numbers(r: Reply) -> [u64; 3]
 }
 
 // What a pick or a commit answers, and the run after it.
-pub fn tell_dispatched(words: &mut [u64], p: Dispatched, out: &mut [u64]) -> u64
+pub fn tell_dispatched(
+    words: &mut [u64],
+    answer: Result<Reply, u64>,
+    run: Numbered,
+    out: &mut [u64],
+) -> u64
     requires run_words_in_bounds { run_words ≤ length words.old }
     requires in_bounds { 3 ≤ length out.old }
     ensures out_after { call result out.new
-        ≡ told numbers.picked out.old (dispatched_of p) }
-    ensures words_after { words.new ≡ after words.old (dispatched_of p) }
+        ≡ told numbers.picked out.old (numbered (reply_with (numbered_of run)) answer) }
+    ensures words_after { words.new
+        ≡ after words.old (numbered (reply_with (numbered_of run)) answer) }
 {
-    if p.answer.is_ok() {
-        capi_numbers::put(words, &words_of(p.run));
+    if answer.is_ok() {
+        capi_numbers::put(words, &words_of(run));
     }
-    capi_numbers::tell(p.answer.map(reply_numbers), out)
+    capi_numbers::tell(answer.map(reply_numbers), out)
 }
 
 // As those of a step's decision, then the ticket's.
 fn asked_numbers(a: Asked) -> [u64; 7]
-    ensures { result
-        ≡ numbers.asked
-        (record { decision = decision_of a.decision; ticket = ticket_of a.ticket }) }
+    ensures { result ≡ numbers.asked (ask_of a) }
 {
     let [kind, low, high, lacks, more] = capi_numbers::decision_numbers(a.decision);
     let member = a.ticket.member as u64;
@@ -131,10 +134,10 @@ fn asked_numbers(a: Asked) -> [u64; 7]
 }
 
 // What an ask answers.
-pub fn tell_asked(a: Result<Asked, Refusal>, out: &mut [u64]) -> u64
+pub fn tell_asked(answer: Result<Asked, u64>, out: &mut [u64]) -> u64
     requires { 7 ≤ length out.old }
     ensures { call result out.new
-        ≡ told numbers.asked out.old (asked_of a) }
+        ≡ told numbers.asked out.old (numbered ask_of answer) }
 {
-    capi_numbers::tell(a.map(asked_numbers), out)
+    capi_numbers::tell(answer.map(asked_numbers), out)
 }

@@ -99,13 +99,6 @@ impl Eq for Mask {
 
 // ---- what a step needs and does, word by word
 
-// Each fact of the word a stands in b.
-fn word_within(a: u64, b: u64) -> bool
-    ensures { result ≡ within a b }
-{
-    a & b == a
-}
-
 // The facts of the word a that do not stand in b.
 fn word_without(a: u64, b: u64) -> u64
     ensures { result ≡ without a b }
@@ -136,14 +129,11 @@ fn word_below(facts: u64, x: u64) -> bool
     if facts < 64 { x >> facts == 0 } else { true }
 }
 
-// Each fact of a stands in b.
+// Each fact of a stands in b: both words at once, which takes less time than one after the other.
 pub fn within(a: Mask, b: Mask) -> bool
     ensures { result ≡ within (number a) (number b) }
 {
-    if !word_within(a.0, b.0) {
-        return false;
-    }
-    word_within(a.1, b.1)
+    without(a, b) == none()
 }
 
 // The facts of a that do not stand in b.

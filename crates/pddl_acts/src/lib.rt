@@ -110,7 +110,7 @@ fn gather(
     let mut count = 0;
     let mut known = true;
     let mut i = start;
-    while let Some(a) = pddl_section::action_at(facts, i) {
+    while let Some(a) = pddl_section::action_at(facts, Some(i)) {
         let name = Span {
             first: a.first,
             end: a.end,

@@ -39,7 +39,7 @@ module _ {text : List ℕ} {at i : ℕ} (g : Passing text at i) where
   passing_on {a} x =
       walked_on Pddl.atom atom-shorter text at i g (span text a.first a.end) a.next x.onward.0 (sym x.same)
 
-  pub passing_end : Atoms text i None → AtomsEnd text at i
+  pub passing_end : Atoms text i None → AtomsEnd text at (Some i)
   passing_end x = record { same = sym (walked_end Pddl.atom atom-shorter text at i g (sym x.same)); onward = g.low }
 
 -- ---- a word among the atoms

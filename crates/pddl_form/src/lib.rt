@@ -1,5 +1,6 @@
-// What stands at an offset of a text of PDDL: fixed tokens, names, atoms, lists of atoms. Each
-// function gives the offset behind what it reads, or none outside the subset.
+// What stands at a place of a text of PDDL: fixed tokens, names, atoms, lists of atoms. A place is
+// an offset, or none outside the subset. The functions go on from a place to the one behind what
+// they read; outside the subset they stay outside. `stands` looks a word up in a list of atoms.
 
 #![tactic(auto)]
 
@@ -7,7 +8,7 @@ ghost use Rattle.std.specs.Prelude.{◌≡◌, ◌≤◌, length};
 ghost use Rattle.semantics.specs.Pddl.{is_in};
 ghost use Rattle.pddl_theory.specs.Inner.Place.{span};
 ghost use Rattle.pddl_form.specs.Inner.Place.{behind_of, agreed, offset_of, atoms_from};
-ghost use Rattle.pddl_form.specs.Inner.Place.{Opens, Closes, Expects, Names};
+ghost use Rattle.pddl_form.specs.Inner.Place.{From, Opens, Closes, Expects, Names};
 ghost use Rattle.pddl_form.specs.Inner.Place.{Atoms, AtomsEnd};
 
 use pddl_token::Token;
@@ -21,30 +22,30 @@ pub struct Word {
 }
 
 // Behind an opening parenthesis; like `close_at` but for the variant, which no parameter can name.
-pub fn open_at(text: &[u8], at: usize) -> Option<usize>
-    ensures { Opens text.now at result }
+pub fn open_at(text: &[u8], at: Option<usize>) -> Option<usize>
+    ensures { From (Opens text.now) at result }
 {
-    match pddl_token::next_token(text, at) {
+    match pddl_token::next_token(text, at?) {
         Token::Open(n) => Some(n),
         _ => None,
     }
 }
 
 // Behind a closing parenthesis.
-pub fn close_at(text: &[u8], at: usize) -> Option<usize>
-    ensures { Closes text.now at result }
+pub fn close_at(text: &[u8], at: Option<usize>) -> Option<usize>
+    ensures { From (Closes text.now) at result }
 {
-    match pddl_token::next_token(text, at) {
+    match pddl_token::next_token(text, at?) {
         Token::Close(n) => Some(n),
         _ => None,
     }
 }
 
 // A name.
-pub fn name_at(text: &[u8], at: usize) -> Option<Word>
-    ensures { Names text.now at result }
+pub fn name_at(text: &[u8], at: Option<usize>) -> Option<Word>
+    ensures { From (Names text.now) at result }
 {
-    let Token::Word(first, end) = pddl_token::next_token(text, at) else {
+    let Token::Word(first, end) = pddl_token::next_token(text, at?) else {
         return None;
     };
     if !pddl_name::is_name(text, first, end) {
@@ -58,12 +59,13 @@ pub fn name_at(text: &[u8], at: usize) -> Option<Word>
 }
 
 // An atom, a name in parentheses.
-pub fn atom_at(text: &[u8], at: usize) -> Option<Word>
-    ensures { Atoms text.now at result }
+pub fn atom_at(text: &[u8], at: Option<usize>) -> Option<Word>
+    ensures { From (Atoms text.now) at result }
 {
-    let inside = open_at(text, at)?;
-    let name = name_at(text, inside)?;
-    let next = close_at(text, name.next)?;
+    let first = at?;
+    let inside = open_at(text, Some(first))?;
+    let name = name_at(text, Some(inside))?;
+    let next = close_at(text, Some(name.next))?;
     Some(Word {
         first: name.first,
         end: name.end,
@@ -96,10 +98,10 @@ fn behind(t: Token) -> Option<usize>
 }
 
 // Behind the tokens of a pattern.
-pub fn expect(text: &[u8], at: usize, pattern: &[u8]) -> Option<usize>
-    ensures { Expects text.now at pattern.now result }
+pub fn expect(text: &[u8], at: Option<usize>, pattern: &[u8]) -> Option<usize>
+    ensures { From (λ first behind. Expects text.now first pattern.now behind) at result }
 {
-    let mut i = at;
+    let mut i = at?;
     let mut j = 0;
     loop {
         let w = pddl_token::next_token(pattern, j);
@@ -116,14 +118,14 @@ pub fn expect(text: &[u8], at: usize, pattern: &[u8]) -> Option<usize>
 }
 
 // Behind as many atoms as there are.
-pub fn atoms_at(text: &[u8], at: usize) -> usize
-    ensures { AtomsEnd text.now at result }
+pub fn atoms_at(text: &[u8], at: Option<usize>) -> Option<usize>
+    ensures { From (AtomsEnd text.now) at result }
 {
-    let mut i = at;
-    while let Some(a) = atom_at(text, i) {
+    let mut i = at?;
+    while let Some(a) = atom_at(text, Some(i)) {
         i = a.next;
     }
-    i
+    Some(i)
 }
 
 // Does the word s..e stand among the atoms from an offset on?
@@ -132,7 +134,7 @@ pub fn stands(text: &[u8], at: usize, s: usize, e: usize) -> bool
     ensures { result ≡ is_in (atoms_from text.now at) (span text.now s e) }
 {
     let mut i = at;
-    while let Some(a) = atom_at(text, i) {
+    while let Some(a) = atom_at(text, Some(i)) {
         if pddl_name::same(text, s, e, text, a.first, a.end) {
             return true;
         }

@@ -2,12 +2,11 @@
 use mathlib.Core.Path.{◌≡◌, sym, ◌∙◌}
 use mathlib.Core.Bool.{Bool, true, false}
 use mathlib.Core.List.{List, [], ◌∷◌}
-use Prim.Native.Nat.{ℕ, ◌^◌, ◌≤◌, ◌<◌}
+use Prim.Native.Nat.{ℕ, ◌^◌, ◌<◌}
 use native.Mathlib.Omega.{arith}
-use lib.ListN.{length}
 use Rattle.std.specs.Prelude.{Some, None}
-use Rattle.semantics.specs.Pddl.{Token, opening, closing, word, same_token, is_name}
-use Rattle.semantics.specs.Pddl.{Parsed, outside, parsed, ◌then◌, Literal, expect, name, atom, literal, is_in}
+use Rattle.semantics.specs.Pddl.{opening, word, same_token, is_name}
+use Rattle.semantics.specs.Pddl.{Parsed, parsed, Literal, expect, name, atom, literal, is_in}
 use Rattle.mask.specs.declared.Mask.{Mask}
 use Rattle.mask.specs.Number.{number}
 use Rattle.pddl_theory.specs.Inner.Limits.{most_facts}

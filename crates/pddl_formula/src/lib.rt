@@ -4,6 +4,7 @@
 #![tactic(auto)]
 
 ghost use Rattle.std.specs.Prelude.{◌≤◌, length};
+ghost use Rattle.pddl_form.specs.Inner.Place.{From};
 ghost use Rattle.pddl_formula.specs.Inner.Formula.{Ready, FactOf};
 ghost use Rattle.pddl_formula.specs.Inner.Formula.{LiteralAt, NegationAt};
 ghost use Rattle.pddl_formula.specs.Inner.Formula.{FormulaAt, ListAt, Goes};
@@ -66,7 +67,7 @@ fn literal(names: &Names, s: usize, e: usize) -> Option<Literals>
     if !pddl_name::is_name(names.text, s, e) {
         return None;
     }
-    let next = pddl_form::close_at(names.text, e)?;
+    let next = pddl_form::close_at(names.text, Some(e))?;
     let fact = fact_of(names, s, e);
     Some(Literals {
         adds: fact.bit,
@@ -80,8 +81,8 @@ fn literal(names: &Names, s: usize, e: usize) -> Option<Literals>
 fn negation(names: &Names, at: usize) -> Option<Literals>
     ensures { NegationAt names.now.text.now names.now.spans.now names.now.more at result }
 {
-    let a = pddl_form::atom_at(names.text, at)?;
-    let next = pddl_form::close_at(names.text, a.next)?;
+    let a = pddl_form::atom_at(names.text, Some(at))?;
+    let next = pddl_form::close_at(names.text, Some(a.next))?;
     let fact = fact_of(names, a.first, a.end);
     Some(Literals {
         adds: mask::none(),
@@ -148,10 +149,12 @@ fn formulas(names: &Names, at: usize, negations: bool, allowed: usize) -> Option
     }
 }
 
-// A formula from an offset on, with 16 `and`s allowed: a condition, or with negations an effect.
-pub fn formula_at(names: &Names, at: usize, negations: bool) -> Option<Literals>
-    ensures { Goes names.now.text.now names.now.spans.now names.now.more negations at result }
+// A formula from a place on, with 16 `and`s allowed: a condition, or with negations an effect.
+pub fn formula_at(names: &Names, at: Option<usize>, negations: bool) -> Option<Literals>
+    ensures { From (Goes names.now.text.now names.now.spans.now names.now.more negations) at
+        result }
 {
-    let inside = pddl_form::open_at(names.text, at)?;
+    let first = at?;
+    let inside = pddl_form::open_at(names.text, Some(first))?;
     formula(names, inside, negations, 16)
 }

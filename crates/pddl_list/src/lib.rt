@@ -27,7 +27,7 @@ pub fn count(text: &[u8], at: usize) -> usize
 {
     let mut n = 0;
     let mut i = at;
-    while let Some(a) = pddl_form::atom_at(text, i) {
+    while let Some(a) = pddl_form::atom_at(text, Some(i)) {
         n += 1;
         i = a.next;
     }
@@ -42,7 +42,10 @@ pub fn alike(text: &[u8], a: usize, b: usize) -> bool
     let mut i = a;
     let mut j = b;
     loop {
-        match (pddl_form::atom_at(text, i), pddl_form::atom_at(text, j)) {
+        match (
+            pddl_form::atom_at(text, Some(i)),
+            pddl_form::atom_at(text, Some(j)),
+        ) {
             (Some(x), Some(y)) => {
                 if !pddl_name::same(text, x.first, x.end, text, y.first, y.end) {
                     return false;
@@ -62,7 +65,7 @@ pub fn distinct(text: &[u8], at: usize) -> bool
     ensures { result ≡ none_twice (atoms_from text.now at) }
 {
     let mut i = at;
-    while let Some(a) = pddl_form::atom_at(text, i) {
+    while let Some(a) = pddl_form::atom_at(text, Some(i)) {
         if pddl_form::stands(text, a.next, a.first, a.end) {
             return false;
         }
@@ -91,7 +94,7 @@ pub fn covered(text: &[u8], a: usize, b: usize) -> bool
         (atoms_from text.now a) }
 {
     let mut i = a;
-    while let Some(x) = pddl_form::atom_at(text, i) {
+    while let Some(x) = pddl_form::atom_at(text, Some(i)) {
         if !pddl_form::stands(text, b, x.first, x.end) {
             return false;
         }
@@ -107,7 +110,7 @@ pub fn fill(text: &[u8], at: usize, spans: &mut [Span]) -> Table
 {
     let mut i = at;
     for n in 0..pddl_words::MOST_FACTS {
-        let Some(a) = pddl_form::atom_at(text, i) else {
+        let Some(a) = pddl_form::atom_at(text, Some(i)) else {
             return Table { count: n, more: i };
         };
         spans[n] = Span {

@@ -59,7 +59,7 @@ pub fn facts_from(names: &Names, at: usize) -> Facts
     let mut mask = mask::none();
     let mut known = true;
     let mut i = at;
-    while let Some(a) = pddl_form::atom_at(names.text, i) {
+    while let Some(a) = pddl_form::atom_at(names.text, Some(i)) {
         let f = pddl_formula::fact_of(names, a.first, a.end);
         mask = pddl_words::union(mask, f.bit);
         known = known & f.known;
@@ -101,7 +101,7 @@ fn same_facts(shared: &Whole, at: usize) -> bool
 fn goal_facts(names: &Names, goal: usize) -> Facts
     ensures { GoalOf names.now.text.now names.now.spans.now names.now.more goal result }
 {
-    match pddl_formula::formula_at(names, goal, false) {
+    match pddl_formula::formula_at(names, Some(goal), false) {
         Some(g) => Facts {
             mask: g.adds,
             known: g.known,

@@ -199,7 +199,8 @@ module _ {text : List ℕ} {at : ℕ} where
       domain_3 x =
           record { same = rw (expected domain-opening x-a, ← x-w.same, expected predicates-opening x); onward = tt }
 
-      module _ {b c : ℕ} (x-b : Expects text w.next (41 ∷ 40 ∷ :predicates) (Some b)) (x-c : AtomsEnd text b c) where
+      module _ {b c : ℕ} (x-b : Expects text w.next (41 ∷ 40 ∷ :predicates) (Some b))
+          (x-c : AtomsEnd text b (Some c)) where
         predicates_read : many atom (rest text b) ≡ parsed (atoms_from text b) (rest text c)
         predicates_read = list-is (many atom (rest text b)) (sym x-c.same)
 
@@ -309,7 +310,8 @@ module _ {text : List ℕ} {at : ℕ} where
                 onward = tt;
               }
 
-          module _ {c d : ℕ} (x-c : Expects text w.next (41 ∷ 40 ∷ :init) (Some c)) (x-d : AtomsEnd text c d) where
+          module _ {c d : ℕ} (x-c : Expects text w.next (41 ∷ 40 ∷ :init) (Some c))
+              (x-d : AtomsEnd text c (Some d)) where
             initial_read : many atom (rest text c) ≡ parsed (atoms_from text c) (rest text d)
             initial_read = list-is (many atom (rest text c)) (sym x-d.same)
 

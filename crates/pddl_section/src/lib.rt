@@ -3,6 +3,7 @@
 
 #![tactic(auto)]
 
+ghost use Rattle.pddl_form.specs.Inner.Place.{From};
 ghost use Rattle.pddl_section.specs.Inner.Section.{Acts, Masked, ActionsEnd};
 ghost use Rattle.pddl_section.specs.Inner.Section.{Domains, Problems, Members};
 
@@ -53,19 +54,20 @@ pub struct Member {
     pub problem: Problem,
 }
 
-// An action. Its facts are looked for among the names.
-pub fn action_at(names: &Names, at: usize) -> Option<Act>
-    ensures acts { Acts names.now.text.now at result }
+// An action from a place on. Its facts are looked for among the names.
+pub fn action_at(names: &Names, at: Option<usize>) -> Option<Act>
+    ensures acts { From (Acts names.now.text.now) at result }
     ensures masked { Masked names.now.text.now names.now.spans.now names.now.more result }
 {
     let text = names.text;
-    let a = pddl_form::expect(text, at, b"(:action")?;
-    let name = pddl_form::name_at(text, a)?;
-    let precondition = pddl_form::expect(text, name.next, b":parameters():precondition")?;
-    let needed = pddl_formula::formula_at(names, precondition, false)?;
-    let effect = pddl_form::expect(text, needed.next, b":effect")?;
-    let changed = pddl_formula::formula_at(names, effect, true)?;
-    let next = pddl_form::close_at(text, changed.next)?;
+    let first = at?;
+    let a = pddl_form::expect(text, Some(first), b"(:action")?;
+    let name = pddl_form::name_at(text, Some(a))?;
+    let precondition = pddl_form::expect(text, Some(name.next), b":parameters():precondition")?;
+    let needed = pddl_formula::formula_at(names, Some(precondition), false)?;
+    let effect = pddl_form::expect(text, Some(needed.next), b":effect")?;
+    let changed = pddl_formula::formula_at(names, Some(effect), true)?;
+    let next = pddl_form::close_at(text, Some(changed.next))?;
     Some(Act {
         first: name.first,
         end: name.end,
@@ -88,7 +90,7 @@ pub fn plain_action_at(text: &[u8], at: usize) -> Option<Act>
         spans: &[],
         more: text.len(),
     };
-    action_at(&none, at)
+    action_at(&none, Some(at))
 }
 
 // Behind as many actions as there are. The like of `pddl_form::atoms_at`: with the reader as a
@@ -107,13 +109,13 @@ fn actions_end(text: &[u8], at: usize) -> usize
 fn domain_at(text: &[u8], at: usize) -> Option<Domain>
     ensures { Domains text.now at result }
 {
-    let a = pddl_form::expect(text, at, b"(define(domain")?;
-    let name = pddl_form::name_at(text, a)?;
-    let predicates = pddl_form::expect(text, name.next, b")(:predicates")?;
-    let c = pddl_form::atoms_at(text, predicates);
-    let actions = pddl_form::close_at(text, c)?;
+    let a = pddl_form::expect(text, Some(at), b"(define(domain")?;
+    let name = pddl_form::name_at(text, Some(a))?;
+    let predicates = pddl_form::expect(text, Some(name.next), b")(:predicates")?;
+    let c = pddl_form::atoms_at(text, Some(predicates))?;
+    let actions = pddl_form::close_at(text, Some(c))?;
     let e = actions_end(text, actions);
-    let next = pddl_form::close_at(text, e)?;
+    let next = pddl_form::close_at(text, Some(e))?;
     Some(Domain {
         first: name.first,
         end: name.end,
@@ -132,16 +134,16 @@ fn problem_at(text: &[u8], at: usize) -> Option<Problem>
         spans: &[],
         more: text.len(),
     };
-    let a = pddl_form::expect(text, at, b"(define(problem")?;
-    let name = pddl_form::name_at(text, a)?;
-    let b = pddl_form::expect(text, name.next, b")(:domain")?;
-    let of = pddl_form::name_at(text, b)?;
-    let c = pddl_form::expect(text, of.next, b")(:init")?;
-    let d = pddl_form::atoms_at(text, c);
-    let goal = pddl_form::expect(text, d, b")(:goal")?;
-    let f = pddl_formula::formula_at(&none, goal, false)?;
-    let g = pddl_form::close_at(text, f.next)?;
-    let next = pddl_form::close_at(text, g)?;
+    let a = pddl_form::expect(text, Some(at), b"(define(problem")?;
+    let name = pddl_form::name_at(text, Some(a))?;
+    let b = pddl_form::expect(text, Some(name.next), b")(:domain")?;
+    let of = pddl_form::name_at(text, Some(b))?;
+    let c = pddl_form::expect(text, Some(of.next), b")(:init")?;
+    let d = pddl_form::atoms_at(text, Some(c))?;
+    let goal = pddl_form::expect(text, Some(d), b")(:goal")?;
+    let f = pddl_formula::formula_at(&none, Some(goal), false)?;
+    let g = pddl_form::close_at(text, Some(f.next))?;
+    let next = pddl_form::close_at(text, Some(g))?;
     Some(Problem {
         first: of.first,
         end: of.end,

@@ -5,14 +5,9 @@
 ghost use Rattle.std.specs.Prelude.{◌≡◌, ◌≤◌, length, replicate};
 ghost use Rattle.semantics.specs.Verdict.{lent_of};
 ghost use Rattle.text.specs.Post.{most_words};
-ghost use Rattle.fault.specs.Value.{verdict_of};
-ghost use Rattle.refusal.specs.Number.{answered};
-ghost use Rattle.report.specs.File.{numbered};
 ghost use Rattle.program.specs.Program.{lent_for, reported, printed, AtFront};
 ghost use Rattle.program.specs.Inner.Most.{most_bytes};
 
-use fault::Verdict;
-use refusal::Refusal;
 use task::Task;
 
 const LOCAL_WORDS: usize = 4096;
@@ -40,16 +35,6 @@ pub const MOST_TEXT: usize = text::MOST_RECORDS * (text::ROW * 20 + text::ROW - 
 pub const MOST_BYTES: usize = 16
     + 33 * (1 + 128 + 8 + (MOST_CONFIGURATIONS + LOCAL_COPIES) + MOST_CONFIGURATIONS);
 
-// The verdict's answer, with the refusal's number for the refusal.
-fn told(answer: Result<Verdict, Refusal>) -> Result<Verdict, u64>
-    ensures { numbered verdict_of result ≡ answered verdict_of answer }
-{
-    match answer {
-        Ok(v) => Ok(v),
-        Err(e) => Err(u64::from(e)),
-    }
-}
-
 // The file of the verdict on an accepted task, with zero slices of the program's lengths.
 fn judge(
     t: &Task,
@@ -69,8 +54,7 @@ fn judge(
 {
     let n = t.members();
     let answer = verdict::verdict(t.words, local, marks, confs, trail, plans, ends, picks);
-    let numbers = told(answer);
-    report::put_file(out, numbers, n, plans, ends, picks)
+    report::put_file(out, refusal::numbered(answer), n, plans, ends, picks)
 }
 
 // The same, with slices of its own.

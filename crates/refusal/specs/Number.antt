@@ -32,7 +32,16 @@ abbrev pub code : {T : Type 0} → Result T Refusal → ℕ
 code (Ok x) = 0
 code (Err e) = number e
 
--- the paper's answer, where A is what T stands for
+-- the result with the refusal's number for the refusal
+abbrev pub by_number : {T : Type 0} → Result T Refusal → Result T ℕ
+by_number (Ok x) = Ok x
+by_number (Err e) = Err (number e)
+
+-- the paper's answer, where a refusal is a number and A is what T stands for
+abbrev pub numbered : {T A : Type 0} → (T → A) → Result T ℕ → Answer A
+numbered f (Ok x) = gives (f x)
+numbered f (Err k) = refused k
+
+-- the paper's answer of a result that may be a refusal
 abbrev pub answered : {T A : Type 0} → (T → A) → Result T Refusal → Answer A
-answered f (Ok x) = gives (f x)
-answered f (Err e) = refused (number e)
+answered f r = numbered f (by_number r)

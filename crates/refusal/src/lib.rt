@@ -3,7 +3,7 @@
 #![tactic(auto)]
 
 ghost use Rattle.std.specs.Prelude.{◌≡◌};
-ghost use Rattle.refusal.specs.Number.{number};
+ghost use Rattle.refusal.specs.Number.{number, by_number};
 
 // The refusals, in the order of their numbers, which begin with 1.
 #[derive(Clone, Copy, Debug, PartialEq, Eq)]
@@ -77,4 +77,11 @@ impl From<Refusal> for u64 {
             Refusal::Changes => 20,
         }
     }
+}
+
+// The result with the refusal's number for the refusal.
+pub fn numbered<T>(answer: Result<T, Refusal>) -> Result<T, u64>
+    ensures { result ≡ by_number answer }
+{
+    answer.map_err(u64::from)
 }

@@ -1,7 +1,6 @@
 -- Document 01, "Text and verdict program": the verdict file, line by line.
 use mathlib.Core.List.{List, [], ◌∷◌, ◌++◌, map, flatten}
 use Rattle.std.specs.Prelude.{ℕ, take}
-use Rattle.std.specs.Prelude.{Result, Ok, Err}
 use Prim.Native.Char.{code}
 use Prim.Native.String.{String, len, char_at}
 use Rattle.semantics.specs.Base.{up_to, Answer, refused, gives}
@@ -50,11 +49,6 @@ fault_line (Fault.missed i) k = line (word "missed") i
 -- a line for each fact of the mask, rising (F-6); a task has at most 128
 unfoldable pub missing_lines : ℕ → List ℕ
 missing_lines m = lines (word "missing") (standing 128 m)
-
--- the paper's answer, where a refusal is its number and A is what T stands for
-abbrev pub numbered : {T A : Type 0} → (T → A) → Result T ℕ → Answer A
-numbered f (Ok x) = gives (f x)
-numbered f (Err k) = refused k
 
 -- the verdict's answer on a task of n members, and the slices that hold its conflict
 abbrev pub body : Answer (Verdict Failing) → ℕ → List ℕ → List ℕ → List ℕ → List ℕ

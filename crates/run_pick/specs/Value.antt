@@ -36,9 +36,13 @@ abbrev pub replies : {R : Type 0} → Base.Answer (Paper.Replied R) → Base.Ans
 replies (refused k) = refused k
 replies (gives p) = gives p.reply
 
+-- a reply with the run after it
+abbrev pub reply_with : {R : Type 0} → R → Reply → Paper.Replied R
+reply_with r x = record { reply = reply_of x; run = r }
+
 -- an answer with the run after it
 abbrev pub answer_with : {R : Type 0} → Result Reply Refusal → R → Base.Answer (Paper.Replied R)
-answer_with a r = answered (λ x. record { reply = reply_of x; run = r }) a
+answer_with a r = answered (reply_with r) a
 
 -- the answer, and the run after it: as it was where the pick is refused
 pub record PickMeans (meaning : Base.Answer (Paper.Replied (Paper.Run ℕ))) (run : Run) (p : Picked) : Type 0 where

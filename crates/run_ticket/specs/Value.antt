@@ -20,8 +20,11 @@ numbered_of d = record { run = run_of d.run; change = d.change }
 abbrev pub ticket_of : Ticket → Dispatch.Ticket
 ticket_of k = record { member = k.member; change = k.change }
 
+abbrev pub ask_of : Asked → Dispatch.Asked ℕ
+ask_of x = record { decision = decision_of x.decision; ticket = ticket_of x.ticket }
+
 abbrev pub asked_of : Result Asked Refusal → Base.Answer (Dispatch.Asked ℕ)
-asked_of a = answered (λ x. record { decision = decision_of x.decision; ticket = ticket_of x.ticket }) a
+asked_of a = answered ask_of a
 
 -- the answer, and the run after it: as it was where there is a refusal
 pub record DispatchMeans (meaning : Base.Answer (Paper.Replied (Dispatch.Numbered ℕ))) (at : Numbered)

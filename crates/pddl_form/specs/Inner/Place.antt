@@ -65,10 +65,20 @@ abbrev pub NotBefore : ℕ → Option ℕ → Type 0
 NotBefore at None = Unit {0}
 NotBefore at (Some n) = at ≤ n
 
+-- such an offset is there
+abbrev pub Reached : ℕ → Option ℕ → Type 0
+Reached at None = ⊥
+Reached at (Some n) = at ≤ n
+
 -- the word lies in the text, and what follows it behind the offset
 abbrev pub WordBehind : ℕ → ℕ → Option Word → Type 0
 WordBehind most at None = Unit {0}
 WordBehind most at (Some w) = (at < w.next) × (w.next ≤ most) × (w.end ≤ most)
+
+-- what is said of an offset, of a place: outside the subset nothing is read
+abbrev pub From : {R : Type 0} → (ℕ → Option R → Type 0) → Option ℕ → Option R → Type 0
+From says None r = r ≡ None
+From says (Some at) r = says at r
 
 pub record Opens (text : List ℕ) (at : ℕ) (r : Option ℕ) : Type 0 where
   pub same : left text r ≡ Pddl.expect (opening ∷ []) (rest text at)
@@ -90,6 +100,6 @@ pub record Atoms (text : List ℕ) (at : ℕ) (r : Option Word) : Type 0 where
   pub same : word_of text r ≡ Pddl.atom (rest text at)
   pub onward : WordBehind (length text) at r
 
-pub record AtomsEnd (text : List ℕ) (at r : ℕ) : Type 0 where
-  pub same : parsed tt (rest text r) ≡ leaves (many Pddl.atom (rest text at))
-  pub onward : at ≤ r
+pub record AtomsEnd (text : List ℕ) (at : ℕ) (r : Option ℕ) : Type 0 where
+  pub same : left text r ≡ leaves (many Pddl.atom (rest text at))
+  pub onward : Reached at r

@@ -13,18 +13,21 @@ returns-in_err-predicates c =
     rw c.from_residual-in_err-predicates.ensures (domain_3 c.in_ok-a.ensures c.in_ok-name.ensures
     c.in_err-predicates.ensures)
 
+pub returns-in_err-c : goal.returns-in_err-c
+returns-in_err-c c = absurd c.in_err-c.ensures.onward
+
 pub returns-in_err-actions : goal.returns-in_err-actions
 returns-in_err-actions c =
     rw c.from_residual-in_err-actions.ensures (domain_4 c.in_ok-a.ensures c.in_ok-name.ensures
-    c.in_ok-predicates.ensures c.atoms_at-c.ensures c.in_err-actions.ensures)
+    c.in_ok-predicates.ensures c.in_ok-c.ensures c.in_err-actions.ensures)
 
 pub returns-in_err-next : goal.returns-in_err-next
 returns-in_err-next c =
     rw c.from_residual-in_err-next.ensures (domain_5 c.in_ok-a.ensures c.in_ok-name.ensures
-    c.in_ok-predicates.ensures c.atoms_at-c.ensures c.in_ok-actions.ensures c.actions_end-e.ensures
+    c.in_ok-predicates.ensures c.in_ok-c.ensures c.in_ok-actions.ensures c.actions_end-e.ensures
     c.in_err-next.ensures)
 
 pub returns : goal.returns
 returns c =
-    a-domain c.in_ok-a.ensures c.in_ok-name.ensures c.in_ok-predicates.ensures c.atoms_at-c.ensures
+    a-domain c.in_ok-a.ensures c.in_ok-name.ensures c.in_ok-predicates.ensures c.in_ok-c.ensures
     c.in_ok-actions.ensures c.actions_end-e.ensures c.in_ok-next.ensures

@@ -23,29 +23,32 @@ returns-in_err-c c =
     rw c.from_residual-in_err-c.ensures (problem_5 c.in_ok-a.ensures c.in_ok-name.ensures c.in_ok-b.ensures
     c.in_ok-of.ensures c.in_err-c.ensures)
 
+pub returns-in_err-d : goal.returns-in_err-d
+returns-in_err-d c = absurd c.in_err-d.ensures.onward
+
 pub returns-in_err-goal : goal.returns-in_err-goal
 returns-in_err-goal c =
     rw c.from_residual-in_err-goal.ensures (problem_6 c.in_ok-a.ensures c.in_ok-name.ensures c.in_ok-b.ensures
-    c.in_ok-of.ensures c.in_ok-c.ensures c.atoms_at-d.ensures c.in_err-goal.ensures)
+    c.in_ok-of.ensures c.in_ok-c.ensures c.in_ok-d.ensures c.in_err-goal.ensures)
 
 pub returns-in_err-f : goal.returns-in_err-f
 returns-in_err-f c =
     rw c.from_residual-in_err-f.ensures (problem_7 c.in_ok-a.ensures c.in_ok-name.ensures c.in_ok-b.ensures
-    c.in_ok-of.ensures c.in_ok-c.ensures c.atoms_at-d.ensures c.in_ok-goal.ensures c.in_err-f.ensures)
+    c.in_ok-of.ensures c.in_ok-c.ensures c.in_ok-d.ensures c.in_ok-goal.ensures c.in_err-f.ensures)
 
 pub returns-in_err-g : goal.returns-in_err-g
 returns-in_err-g c =
     rw c.from_residual-in_err-g.ensures (problem_8 c.in_ok-a.ensures c.in_ok-name.ensures c.in_ok-b.ensures
-    c.in_ok-of.ensures c.in_ok-c.ensures c.atoms_at-d.ensures c.in_ok-goal.ensures c.in_ok-f.ensures
+    c.in_ok-of.ensures c.in_ok-c.ensures c.in_ok-d.ensures c.in_ok-goal.ensures c.in_ok-f.ensures
     c.in_err-g.ensures)
 
 pub returns-in_err-next : goal.returns-in_err-next
 returns-in_err-next c =
     rw c.from_residual-in_err-next.ensures (problem_9 c.in_ok-a.ensures c.in_ok-name.ensures c.in_ok-b.ensures
-    c.in_ok-of.ensures c.in_ok-c.ensures c.atoms_at-d.ensures c.in_ok-goal.ensures c.in_ok-f.ensures
+    c.in_ok-of.ensures c.in_ok-c.ensures c.in_ok-d.ensures c.in_ok-goal.ensures c.in_ok-f.ensures
     c.in_ok-g.ensures c.in_err-next.ensures)
 
 pub returns : goal.returns
 returns c =
     a-problem c.in_ok-a.ensures c.in_ok-name.ensures c.in_ok-b.ensures c.in_ok-of.ensures c.in_ok-c.ensures
-    c.atoms_at-d.ensures c.in_ok-goal.ensures c.in_ok-f.ensures c.in_ok-g.ensures c.in_ok-next.ensures
+    c.in_ok-d.ensures c.in_ok-goal.ensures c.in_ok-f.ensures c.in_ok-g.ensures c.in_ok-next.ensures

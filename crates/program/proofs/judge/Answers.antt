@@ -19,7 +19,7 @@ put_file-requires c =
     let f = file-fits t s r (answered verdict_of v.result) c.args.t.now.accepted c.requires.picks_value v.auto.plans v.auto.picks in
     record {
       holds =
-          rw c.told-numbers.ensures
+          rw c.numbered.ensures
           (subst (λ (n : ℕ). Holds (answered verdict_of v.result) n r.plans r.ends r.picks) (sym c.members-n.ensures)
           (holds t s r (answered verdict_of v.result) v.ensures.verdict_means));
       picks_in_bounds = omega (arith, c.members-n.ensures, f, c.requires.most_bytes_in_bounds);
@@ -32,4 +32,4 @@ returns c =
     let s : Slices = lent_of a.local.now a.marks.now a.confs.now a.trail.now a.plans.now a.ends.now a.picks.now in
     let r : Slices = lent_of v.new.local v.new.marks v.new.confs v.new.trail v.new.plans v.new.ends v.new.picks in
     reports a.t.now.words.now s r (answered verdict_of v.result) c.requires.picks_value v.ensures.verdict_means c.members-n.result
-    c.members-n.ensures a.out.now c.put_file.new.out c.put_file.result (rw c.told-numbers.ensures at c.put_file.ensures)
+    c.members-n.ensures a.out.now c.put_file.new.out c.put_file.result (rw c.numbered.ensures at c.put_file.ensures)

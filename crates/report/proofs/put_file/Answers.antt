@@ -3,7 +3,8 @@ use native.Mathlib.Omega.{arith}
 use Rattle.theory.proofs.Laid.{laid-append}
 use Rattle.fault.specs.Value.{verdict_of}
 use Rattle.semantics.specs.Base.{numbers_from}
-use Rattle.report.specs.File.{word, numbered}
+use Rattle.refusal.specs.Number.{numbered}
+use Rattle.report.specs.File.{word}
 use Rattle.report.proofs.Laws.{conflict-most}
 use Rattle.report.proofs.put_file.Goals as goal
 
