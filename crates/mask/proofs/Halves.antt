@@ -1,13 +1,13 @@
 -- A mask is its two words: what holds of both words holds of the mask. Assumes nothing.
 use mathlib.Core.Path.{◌≡◌, refl, sym, ap, ◌∙◌}
-use mathlib.Core.Bool.{Bool, true, false, ◌&&◌}
+use mathlib.Core.Bool.{Bool, true, false, not, ◌&&◌}
 use Prim.Native.Nat.{ℕ, ◌+◌, ◌-◌, ◌*◌, ◌/◌, ◌%◌, ◌^◌, ◌≤◌, ◌<◌}
 use native.Mathlib.Nat.{div-eq_of_lt, lt-div-mul-add, lt_of_lt_of_le, zero-mul}
 use native.Mathlib.Omega.{arith}
 use lib.Dec.{eqb, ltb}
 use lib.Bits.{bit_and, bit_or, and_block, or_block, and_le_l, and_lt}
 use lib.Pow.{pow_pos, pow_mono, pow-add}
-use borrow.Author.Tests.{eq-eqb, ne_eqb, eqb-true, ltb-true, ltb-false, lt-ltb, le-ltb}
+use borrow.Author.Tests.{eq-eqb, ne_eqb, eqb-true, ltb-true, ltb-false, lt-ltb, le-ltb, not-true, not-false}
 use Rattle.semantics.specs.Mask.{has, within, without, after, below}
 use Rattle.semantics.specs.Words.{of_words}
 use Rattle.theory.proofs.Lists.{test_ext, and_elim, and_intro}
@@ -118,6 +118,14 @@ module _ (a b c d : ℕ) (la : a < 2 ^ 64) (lc : c < 2 ^ 64) where
 
   pub same_low : a ≡ c → eqb b d ≡ eqb (of_words a b) (of_words c d)
   same_low e = rw (same-words a b c d la lc, eq-eqb a c e)
+
+  -- of masks compared word by word
+  module _ (w : Bool) (e : w ≡ within a c) where
+    pub outside_low : not w ≡ true → false ≡ within (of_words a b) (of_words c d)
+    outside_low h = rw (within-words a b c d la lc, ← e, not-true w h)
+
+    pub within_low : not w ≡ false → (v : Bool) → v ≡ within b d → v ≡ within (of_words a b) (of_words c d)
+    within_low h v k = rw (within-words a b c d la lc, ← e, not-false w h, ← k)
 
 -- each fact of a stands in b where none of a is left without those of b
 pub within-none : (a b : ℕ) → eqb (without a b) 0 ≡ within a b
